@@ -1,0 +1,201 @@
+// The five calls. Each works out its refusal first, test by test in the order of the rules.
+use crate::answers::Answer;
+use crate::answers::Handed;
+use crate::answers::Operation;
+use crate::answers::Record;
+use crate::entry::GuestAddress;
+use crate::entry::entry_of;
+use crate::ranges;
+use crate::state::Called;
+use crate::state::Machine;
+use crate::word;
+ghost use mathlib.Core.Path.{_≡_};
+ghost use Prim.Native.Nat.{_<_};
+ghost use lib.ListN.{length};
+ghost use Rattle.machine.specs.Calls.{
+  outcome,
+  pokeOutcome,
+  addressRefusal,
+  startRefusal,
+  startOf,
+  giveRefusal,
+  giveOf,
+  stepRefusal,
+  stepOf,
+  wordRefusal,
+  pokeOf,
+  showOf,
+};
+
+fn address_refusal(bytes: usize, a: GuestAddress) -> u32
+    ensures { λ r. ⌜ r ≡ addressRefusal bytes a ⌝ }
+{
+    let place = a.place();
+    if place % 4 != 0 {
+        return 2;
+    }
+    if bytes <= place {
+        return 3;
+    }
+    0
+}
+
+fn start_refusal(count: usize, memory: usize, owners: usize, holders: usize) -> u32
+    ensures { λ r. ⌜ r ≡ startRefusal count memory owners holders ⌝ }
+{
+    if !(ranges::bytes_fit(memory) & ranges::tables_fit(owners, holders)) {
+        return 4;
+    }
+    if !ranges::cores_fit(count) {
+        return 1;
+    }
+    0
+}
+
+// A fresh machine, of the sizes that the lent buffers have.
+pub fn start(count: usize, memory: &mut [u8], owners: &mut [u8], holders: &mut [u8]) -> Called
+    ensures { λ r. ⌜ outcome r (now (memory .exit)) (now (owners .exit)) (now (holders .exit)) ≡ startOf count (now (memory .entry)) (now (owners .entry)) (now (holders .entry)) ⌝ }
+{
+    let bytes = memory.len();
+    let entries = owners.len();
+    let number = start_refusal(count, bytes, entries, holders.len());
+    if number != 0 {
+        return Called::refused(number, Machine::all_idle(0, 0, 0));
+    }
+    word::clear(memory);
+    word::clear(owners);
+    word::clear(holders);
+    Called::answered(Answer::Ready, Machine::all_idle(count, bytes, entries))
+}
+
+fn give_refusal(m: Machine, core: usize, operation: Operation) -> u32
+    ensures { λ r. ⌜ r ≡ giveRefusal m core operation ⌝ }
+{
+    if !ranges::in_ranges(m) {
+        return 5;
+    }
+    if m.count <= core {
+        return 1;
+    }
+    let c = m.cores[core];
+    if c.busy {
+        return 7;
+    }
+    address_refusal(m.bytes, operation.address())
+}
+
+// An operation for an idle core.
+pub fn give(m: Machine, core: usize, operation: Operation) -> Called
+    ensures { λ r. ⌜ r ≡ giveOf m core operation ⌝ }
+{
+    let number = give_refusal(m, core, operation);
+    if number != 0 {
+        return Called::refused(number, m);
+    }
+    let c = m.cores[core];
+    let mut machine = m;
+    machine.cores[core] = c.given(operation);
+    Called::answered(Answer::Taken, machine)
+}
+
+fn step_refusal(m: Machine, memory: usize, owners: &[u8], holders: &[u8], core: usize) -> u32
+    ensures { λ r. ⌜ r ≡ stepRefusal m memory (now (owners .entry)) (now (holders .entry)) core ⌝ }
+{
+    if !ranges::in_ranges(m) {
+        return 5;
+    }
+    let entries = m.entries;
+    if !((memory == m.bytes) & (owners.len() == entries) & (holders.len() == entries)) {
+        return 4;
+    }
+    if m.count <= core {
+        return 1;
+    }
+    let c = m.cores[core];
+    if !c.busy {
+        return 8;
+    }
+    let e = entry_of(entries, c.address).0;
+    if ranges::damaged(m.count, core as u8, c, owners[e], holders[e]) {
+        return 6;
+    }
+    0
+}
+
+// One micro-step of one core.
+pub fn step(
+    m: Machine,
+    memory: &mut [u8],
+    owners: &mut [u8],
+    holders: &mut [u8],
+    core: usize,
+) -> Called
+    ensures { λ r. ⌜ outcome r (now (memory .exit)) (now (owners .exit)) (now (holders .exit)) ≡ stepOf m (now (memory .entry)) (now (owners .entry)) (now (holders .entry)) core ⌝ }
+{
+    let number = step_refusal(m, memory.len(), owners, holders, core);
+    if number != 0 {
+        return Called::refused(number, m);
+    }
+    let c = m.cores[core];
+    let address = c.address;
+    let e = entry_of(m.entries, address).0;
+    let word = word::read_word(memory, address);
+    let made = c.micro_step(core as u8, owners[e], holders[e], word);
+    owners[e] = made.owner;
+    holders[e] = made.holder;
+    word::write_word_if(made.writes, memory, address, c.value);
+    let mut machine = m;
+    let next = made.core;
+    machine.cores[core] = next;
+    let answer = made.answer;
+    let handed = made.made;
+    Called {
+        answer,
+        made: handed,
+        machine,
+    }
+}
+
+fn word_refusal(m: Machine, memory: usize, address: GuestAddress) -> u32
+    ensures { λ r. ⌜ r ≡ wordRefusal m memory address ⌝ }
+{
+    if !ranges::in_ranges(m) {
+        return 5;
+    }
+    if memory != m.bytes {
+        return 4;
+    }
+    address_refusal(m.bytes, address)
+}
+
+// A write by the bench, at once.
+pub fn poke(m: Machine, memory: &mut [u8], address: GuestAddress, value: u32) -> Called
+    ensures { λ r. ⌜ pokeOutcome r (now (memory .exit)) ≡ pokeOf m (now (memory .entry)) address value ⌝ }
+{
+    let number = word_refusal(m, memory.len(), address);
+    if number != 0 {
+        return Called::refused(number, m);
+    }
+    word::write_word(memory, address, value);
+    Called {
+        answer: Answer::Poked,
+        made: Handed::One(Record {
+            core: 255,
+            kind: 6,
+            address,
+            value,
+        }),
+        machine: m,
+    }
+}
+
+// The word at an address.
+pub fn show(m: Machine, memory: &[u8], address: GuestAddress) -> Called
+    ensures { λ r. ⌜ r ≡ showOf m (now (memory .entry)) address ⌝ }
+{
+    let number = word_refusal(m, memory.len(), address);
+    if number != 0 {
+        return Called::refused(number, m);
+    }
+    Called::answered(Answer::Word(word::read_word(memory, address)), m)
+}
