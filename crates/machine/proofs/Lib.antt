@@ -1,3 +1,4 @@
 pub mod Bools
 pub mod Bytes
 pub mod Accepted
+pub mod Numbers

@@ -37,6 +37,10 @@ outcome called memory owners holders = record { called = called; memory = memory
 abbrev pub refused : ℕ → Machine → Called
 refused number m = record { answer = Refused number; made = Nothing; machine = m }
 
+-- a call's outcome: its refusal if it has one, by the refusal's number, and else what it does
+abbrev pub unlessRefused : {A : Type 0} → ℕ → (ℕ → A) → A → A
+unlessRefused number refusal done = if eqb number 0 then done else refusal number
+
 -- an answer that changes no core and makes no record
 abbrev pub answered : Answer → Machine → Called
 answered answer m = record { answer = answer; made = Nothing; machine = m }
@@ -71,20 +75,25 @@ abbrev pub allIdle : ℕ → ℕ → ℕ → Machine
 allIdle count bytes entries = record { cores = replicate 8 idle; count = count; bytes = bytes; entries = entries }
 
 -- "Start fills memory, owners and holders with 0."
+abbrev pub started : ℕ → List ℕ → List ℕ → List ℕ → Outcome
+started count memory owners holders =
+    outcome (answered Ready (allIdle count (length memory) (length owners))) (replicate (length memory) 0) (replicate (length owners) 0) (replicate (length holders) 0)
+
 unfoldable pub startOf : ℕ → List ℕ → List ℕ → List ℕ → Outcome
 startOf count memory owners holders =
-    if eqb (startRefusal count (length memory) (length owners) (length holders)) 0
-    then outcome (answered Ready (allIdle count (length memory) (length owners))) (replicate (length memory) 0) (replicate (length owners) 0) (replicate (length holders) 0)
-    else outcome (refused (startRefusal count (length memory) (length owners) (length holders)) (allIdle 0 0 0)) memory owners holders
+    unlessRefused (startRefusal count (length memory) (length owners) (length holders)) (λ n. outcome (refused n (allIdle 0 0 0)) memory owners holders)
+    (started count memory owners holders)
 
 -- "give 5, 1, 7, 2, 3"
 unfoldable pub giveRefusal : Machine → ℕ → Operation → ℕ
 giveRefusal m core o =
     if not (inRanges m) then 5 else if leb (m .count) core then 1 else if coreAt m core .busy then 7 else addressRefusal (m .bytes) (addressOf o)
 
+abbrev pub taken : Machine → ℕ → Operation → Called
+taken m core o = answered Taken (withCore m core (given (coreAt m core) o))
+
 unfoldable pub giveOf : Machine → ℕ → Operation → Called
-giveOf m core o =
-    if eqb (giveRefusal m core o) 0 then answered Taken (withCore m core (given (coreAt m core) o)) else refused (giveRefusal m core o) m
+giveOf m core o = unlessRefused (giveRefusal m core o) (λ n. refused n m) (taken m core o)
 
 -- "step 5, 4, 1, 8, 6"
 unfoldable pub stepRefusal : Machine → ℕ → List ℕ → List ℕ → ℕ → ℕ
@@ -102,8 +111,8 @@ microStepAt m memory owners holders core =
     microStep core (coreAt m core) (markAt owners (entryAt m core)) (markAt holders (entryAt m core)) (readWord memory (coreAt m core .address))
 
 -- what it leaves: the core, its entry's owner and holder, and the word if it writes
-unfoldable pub stepDone : Machine → List ℕ → List ℕ → List ℕ → ℕ → MicroStep → Outcome
-stepDone m memory owners holders core s =
+unfoldable pub stepped : Machine → List ℕ → List ℕ → List ℕ → ℕ → MicroStep → Outcome
+stepped m memory owners holders core s =
     outcome (record { answer = s .answer; made = s .made; machine = withCore m core (s .core) })
     (if s .writes then writeWord memory (coreAt m core .address) (coreAt m core .value) else memory)
     (withMark owners (entryAt m core) (s .owner))
@@ -111,9 +120,8 @@ stepDone m memory owners holders core s =
 
 unfoldable pub stepOf : Machine → List ℕ → List ℕ → List ℕ → ℕ → Outcome
 stepOf m memory owners holders core =
-    if eqb (stepRefusal m (length memory) owners holders core) 0
-    then stepDone m memory owners holders core (microStepAt m memory owners holders core)
-    else outcome (refused (stepRefusal m (length memory) owners holders core) m) memory owners holders
+    unlessRefused (stepRefusal m (length memory) owners holders core) (λ n. outcome (refused n m) memory owners holders)
+    (stepped m memory owners holders core (microStepAt m memory owners holders core))
 
 -- "poke and show 5, 4, 2, 3"
 unfoldable pub wordRefusal : Machine → ℕ → GuestAddress → ℕ
@@ -128,13 +136,13 @@ abbrev pub pokeOutcome : Called → List ℕ → PokeOutcome
 pokeOutcome called memory = record { called = called; memory = memory }
 
 -- "A poke by the bench writes one word at once and touches no mark, lock or link; it counts as one access."
+abbrev pub poked : Machine → List ℕ → GuestAddress → ℕ → PokeOutcome
+poked m memory a value =
+    pokeOutcome (record { answer = Poked; made = One (record { core = pokeCore; kind = pokeKind; address = a; value = value }); machine = m }) (writeWord memory a value)
+
 unfoldable pub pokeOf : Machine → List ℕ → GuestAddress → ℕ → PokeOutcome
-pokeOf m memory a value =
-    if eqb (wordRefusal m (length memory) a) 0
-    then pokeOutcome (record { answer = Poked; made = One (record { core = pokeCore; kind = pokeKind; address = a; value = value }); machine = m }) (writeWord memory a value)
-    else pokeOutcome (refused (wordRefusal m (length memory) a) m) memory
+pokeOf m memory a value = unlessRefused (wordRefusal m (length memory) a) (λ n. pokeOutcome (refused n m) memory) (poked m memory a value)
 
 -- the word at an address
 unfoldable pub showOf : Machine → List ℕ → GuestAddress → Called
-showOf m memory a =
-    if eqb (wordRefusal m (length memory) a) 0 then answered (Word (readWord memory a)) m else refused (wordRefusal m (length memory) a) m
+showOf m memory a = unlessRefused (wordRefusal m (length memory) a) (λ n. refused n m) (answered (Word (readWord memory a)) m)

@@ -1,7 +1,8 @@
 -- Document 01, "Sizes".
-use Prim.Native.Nat.{ℕ, _+_, _%_}
-use mathlib.Core.Bool.{Bool, _&&_, _||_}
+use Prim.Native.Nat.{ℕ, _+_, _%_, _^_}
+use mathlib.Core.Bool.{Bool, _&&_}
 use lib.Dec.{leb, eqb}
+use Rattle.machine.specs.Basics.{anyBelow}
 
 -- "Cores 1..8, numbered from 0."
 abbrev pub coresFit : ℕ → Bool
@@ -13,8 +14,7 @@ bytesFit bytes = leb 4 bytes && leb bytes 65536 && eqb (bytes % 4) 0
 
 -- "Entries E: a power of two, 1..4,096."
 unfoldable pub entriesFit : ℕ → Bool
-entriesFit e =
-    eqb e 1 || eqb e 2 || eqb e 4 || eqb e 8 || eqb e 16 || eqb e 32 || eqb e 64 || eqb e 128 || eqb e 256 || eqb e 512 || eqb e 1024 || eqb e 2048 || eqb e 4096
+entriesFit e = anyBelow 13 (λ k. eqb e (2 ^ k))
 
 -- "Owner marks and lock holders are two lent byte buffers of E bytes each."
 abbrev pub tablesFit : ℕ → ℕ → Bool

@@ -12,6 +12,7 @@ use crate::word;
 ghost use mathlib.Core.Path.{_≡_};
 ghost use Prim.Native.Nat.{_<_};
 ghost use lib.ListN.{length};
+ghost use Rattle.machine.specs.Answers.{numberOf};
 ghost use Rattle.machine.specs.Calls.{
   outcome,
   pokeOutcome,
@@ -54,7 +55,8 @@ fn start_refusal(count: usize, memory: usize, owners: usize, holders: usize) -> 
 
 // A fresh machine, of the sizes that the lent buffers have.
 pub fn start(count: usize, memory: &mut [u8], owners: &mut [u8], holders: &mut [u8]) -> Called
-    ensures { λ r. ⌜ outcome r (now (memory .exit)) (now (owners .exit)) (now (holders .exit)) ≡ startOf count (now (memory .entry)) (now (owners .entry)) (now (holders .entry)) ⌝ }
+    ensures number { λ r. ⌜ numberOf (r .answer) ≡ startRefusal count (length (now (memory .entry))) (length (now (owners .entry))) (length (now (holders .entry))) ⌝ }
+    ensures outcome { λ r. ⌜ outcome r (now (memory .exit)) (now (owners .exit)) (now (holders .exit)) ≡ startOf count (now (memory .entry)) (now (owners .entry)) (now (holders .entry)) ⌝ }
 {
     let bytes = memory.len();
     let entries = owners.len();
@@ -86,7 +88,8 @@ fn give_refusal(m: Machine, core: usize, operation: Operation) -> u32
 
 // An operation for an idle core.
 pub fn give(m: Machine, core: usize, operation: Operation) -> Called
-    ensures { λ r. ⌜ r ≡ giveOf m core operation ⌝ }
+    ensures number { λ r. ⌜ numberOf (r .answer) ≡ giveRefusal m core operation ⌝ }
+    ensures outcome { λ r. ⌜ r ≡ giveOf m core operation ⌝ }
 {
     let number = give_refusal(m, core, operation);
     if number != 0 {
@@ -130,7 +133,8 @@ pub fn step(
     holders: &mut [u8],
     core: usize,
 ) -> Called
-    ensures { λ r. ⌜ outcome r (now (memory .exit)) (now (owners .exit)) (now (holders .exit)) ≡ stepOf m (now (memory .entry)) (now (owners .entry)) (now (holders .entry)) core ⌝ }
+    ensures number { λ r. ⌜ numberOf (r .answer) ≡ stepRefusal m (length (now (memory .entry))) (now (owners .entry)) (now (holders .entry)) core ⌝ }
+    ensures outcome { λ r. ⌜ outcome r (now (memory .exit)) (now (owners .exit)) (now (holders .exit)) ≡ stepOf m (now (memory .entry)) (now (owners .entry)) (now (holders .entry)) core ⌝ }
 {
     let number = step_refusal(m, memory.len(), owners, holders, core);
     if number != 0 {
@@ -170,7 +174,8 @@ fn word_refusal(m: Machine, memory: usize, address: GuestAddress) -> u32
 
 // A write by the bench, at once.
 pub fn poke(m: Machine, memory: &mut [u8], address: GuestAddress, value: u32) -> Called
-    ensures { λ r. ⌜ pokeOutcome r (now (memory .exit)) ≡ pokeOf m (now (memory .entry)) address value ⌝ }
+    ensures number { λ r. ⌜ numberOf (r .answer) ≡ wordRefusal m (length (now (memory .entry))) address ⌝ }
+    ensures outcome { λ r. ⌜ pokeOutcome r (now (memory .exit)) ≡ pokeOf m (now (memory .entry)) address value ⌝ }
 {
     let number = word_refusal(m, memory.len(), address);
     if number != 0 {
@@ -191,7 +196,8 @@ pub fn poke(m: Machine, memory: &mut [u8], address: GuestAddress, value: u32) ->
 
 // The word at an address.
 pub fn show(m: Machine, memory: &[u8], address: GuestAddress) -> Called
-    ensures { λ r. ⌜ r ≡ showOf m (now (memory .entry)) address ⌝ }
+    ensures number { λ r. ⌜ numberOf (r .answer) ≡ wordRefusal m (length (now (memory .entry))) address ⌝ }
+    ensures outcome { λ r. ⌜ r ≡ showOf m (now (memory .entry)) address ⌝ }
 {
     let number = word_refusal(m, memory.len(), address);
     if number != 0 {

@@ -1,3 +1,5 @@
+use Rattle.machine.specs.declared.state.Called.{Called}
+use Rattle.machine.proofs.Numbers.{numbered, give-number}
 use Rattle.machine.specs.Calls.{giveOf}
 use Rattle.machine.proofs.Accepted.{give-accepted, sizes-fit}
 use borrow.Author.Tests.{eq-eqb, ne-eqb}
@@ -24,7 +26,9 @@ refused-requires c κs = search needs
 -- src/calls.rt:88:9
 returns : tie.Need-returns
 unfolding giveOf
-returns c = rw (← c .before .before .give-refusal .ensures, ne-eqb _ _ (c .before .if1 .taken)) (c .refused .ensures)
+returns c =
+    numbered (λ (r : Called). r .answer) (give-number (c .before .before .before .args .t1) (c .before .before .before .args .core) (c .before .before .before .args .operation))
+    (rw (← c .before .before .give-refusal .ensures, ne-eqb _ _ (c .before .if1 .taken)) (c .refused .ensures))
 
 -- src/calls.rt:90:13
 mul-c : tie.Need-mul-c
@@ -53,7 +57,9 @@ answered-requires c κs = search needs
 -- src/calls.rt:83:1
 returns-2 : tie.Need-returns-2
 unfolding giveOf
-returns-2 c = rw (← c .before .before .before .before .give-refusal .ensures, eq-eqb _ _ (c .before .before .before .if1 .left), c .answered .ensures, c .before .given .ensures)
+returns-2 c =
+    numbered (λ (r : Called). r .answer) (give-number (c .before .before .before .before .before .args .t1) (c .before .before .before .before .before .args .core) (c .before .before .before .before .before .args .operation))
+    (rw (← c .before .before .before .before .give-refusal .ensures, eq-eqb _ _ (c .before .before .before .if1 .left), c .answered .ensures, c .before .given .ensures))
 
 pub give-spec : {M : Type 1} → statement M
 give-spec =

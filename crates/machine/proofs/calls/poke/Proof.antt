@@ -1,3 +1,5 @@
+use Rattle.machine.specs.Calls.{PokeOutcome}
+use Rattle.machine.proofs.Numbers.{numbered, poke-number}
 use Rattle.machine.proofs.Accepted.{word-accepted, word-lent}
 use borrow.Author.Tests.{eq-eqb, ne-eqb}
 use mathlib.Core.Path.{_∙_, sym}
@@ -23,7 +25,9 @@ refused-requires c κs = search needs
 -- src/calls.rt:172:9
 returns : tie.Need-returns
 unfolding pokeOf
-returns c = rw (← c .before .before .word-refusal .ensures, ne-eqb _ _ (c .before .if1 .taken), c .refused .ensures)
+returns c =
+    numbered (λ (o : PokeOutcome). o .called .answer) (poke-number (c .before .before .before .before .args .m) (c .before .before .before .before .args .memory .now) (c .before .before .before .before .args .address) (c .before .before .before .before .args .value))
+    (rw (← c .before .before .word-refusal .ensures, ne-eqb _ _ (c .before .if1 .taken), c .refused .ensures))
 
 -- src/calls.rt:174:5
 write-word-requires : tie.Need-write-word-requires
@@ -36,7 +40,9 @@ same-length c = search needs
 -- src/calls.rt:167:1
 returns-2 : tie.Need-returns-2
 unfolding pokeOf
-returns-2 c = rw (← c .before .before .before .before .before .word-refusal .ensures, eq-eqb _ _ (c .before .before .before .before .if1 .left), c .before .before .write-word .ensures)
+returns-2 c =
+    numbered (λ (o : PokeOutcome). o .called .answer) (poke-number (c .before .before .before .before .before .before .before .args .m) (c .before .before .before .before .before .before .before .args .memory .now) (c .before .before .before .before .before .before .before .args .address) (c .before .before .before .before .before .before .before .args .value))
+    (rw (← c .before .before .before .before .before .word-refusal .ensures, eq-eqb _ _ (c .before .before .before .before .if1 .left), c .before .before .write-word .ensures))
 
 pub poke-spec : {M : Type 1} → statement M
 poke-spec =

@@ -1,3 +1,5 @@
+use Rattle.machine.specs.declared.state.Called.{Called}
+use Rattle.machine.proofs.Numbers.{numbered, show-number}
 use Rattle.machine.proofs.Accepted.{word-accepted, word-lent}
 use borrow.Author.Tests.{eq-eqb, ne-eqb}
 use mathlib.Core.Path.{_∙_, sym}
@@ -24,7 +26,9 @@ refused-requires c κs = search needs
 -- src/calls.rt:193:9
 returns : tie.Need-returns
 unfolding showOf
-returns c = rw (← c .before .before .word-refusal .ensures, ne-eqb _ _ (c .before .if1 .taken)) (c .refused .ensures)
+returns c =
+    numbered (λ (r : Called). r .answer) (show-number (c .before .before .before .before .args .m) (c .before .before .before .before .args .memory .now) (c .before .before .before .before .args .address))
+    (rw (← c .before .before .word-refusal .ensures, ne-eqb _ _ (c .before .if1 .taken)) (c .refused .ensures))
 
 -- src/calls.rt:195:35
 read-word-requires : tie.Need-read-word-requires
@@ -37,7 +41,9 @@ answered-requires c κs = search needs
 -- src/calls.rt:188:1
 returns-2 : tie.Need-returns-2
 unfolding showOf
-returns-2 c = rw (← c .before .before .before .word-refusal .ensures, eq-eqb _ _ (c .before .before .if1 .left), ← c .before .read-word .ensures) (c .answered .ensures)
+returns-2 c =
+    numbered (λ (r : Called). r .answer) (show-number (c .before .before .before .before .before .args .m) (c .before .before .before .before .before .args .memory .now) (c .before .before .before .before .before .args .address))
+    (rw (← c .before .before .before .word-refusal .ensures, eq-eqb _ _ (c .before .before .if1 .left), ← c .before .read-word .ensures) (c .answered .ensures))
 
 pub show-spec : {M : Type 1} → statement M
 show-spec =

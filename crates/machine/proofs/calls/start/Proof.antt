@@ -1,3 +1,5 @@
+use Rattle.machine.specs.Calls.{Outcome}
+use Rattle.machine.proofs.Numbers.{numbered, start-number}
 use borrow.Author.Tests.{eq-eqb, ne-eqb}
 use Rattle.machine.specs.Calls.{startOf}
 use borrow.Author.Needs.{needs}
@@ -26,7 +28,9 @@ refused-requires c κs = search needs
 -- src/calls.rt:58:9
 returns : tie.Need-returns
 unfolding startOf
-returns c = rw (← c .before .before .before .start-refusal .ensures, ne-eqb _ _ (c .before .before .if1 .taken), c .refused .ensures, c .before .all-idle .ensures)
+returns c =
+    numbered (λ (o : Outcome). o .called .answer) (start-number (c .before .before .before .before .before .before .before .args .count) (c .before .before .before .before .before .before .before .args .memory .now) (c .before .before .before .before .before .before .before .args .owners .now) (c .before .before .before .before .before .before .before .args .holders .now))
+    (rw (← c .before .before .before .start-refusal .ensures, ne-eqb _ _ (c .before .before .if1 .taken), c .refused .ensures, c .before .all-idle .ensures))
 
 -- src/calls.rt:60:5
 clear-requires : tie.Need-clear-requires
@@ -63,7 +67,9 @@ same-length-3 c = search needs
 -- src/calls.rt:46:1
 returns-2 : tie.Need-returns-2
 unfolding startOf
-returns-2 c = rw (← c .before .before .before .before .before .before .before .before .before .before .before .before .before .before .before .start-refusal .ensures, eq-eqb _ _ (c .before .before .before .before .before .before .before .before .before .before .before .before .before .before .if1 .left), c .answered .ensures, c .before .all-idle2 .ensures, c .before .before .before .before .before .before .before .before .before .before .before .before .clear .ensures, c .before .before .before .before .before .before .before .before .clear2 .ensures, c .before .before .before .before .clear3 .ensures)
+returns-2 c =
+    numbered (λ (o : Outcome). o .called .answer) (start-number (c .before .before .before .before .before .before .before .before .before .before .before .before .before .before .before .before .before .before .before .args .count) (c .before .before .before .before .before .before .before .before .before .before .before .before .before .before .before .before .before .before .before .args .memory .now) (c .before .before .before .before .before .before .before .before .before .before .before .before .before .before .before .before .before .before .before .args .owners .now) (c .before .before .before .before .before .before .before .before .before .before .before .before .before .before .before .before .before .before .before .args .holders .now))
+    (rw (← c .before .before .before .before .before .before .before .before .before .before .before .before .before .before .before .start-refusal .ensures, eq-eqb _ _ (c .before .before .before .before .before .before .before .before .before .before .before .before .before .before .if1 .left), c .answered .ensures, c .before .all-idle2 .ensures, c .before .before .before .before .before .before .before .before .before .before .before .before .clear .ensures, c .before .before .before .before .before .before .before .before .clear2 .ensures, c .before .before .before .before .clear3 .ensures))
 
 pub start-spec : {M : Type 1} → statement M
 start-spec =

@@ -1,4 +1,6 @@
-use Rattle.machine.specs.Calls.{microStepAt, stepDone, stepOf}
+use Rattle.machine.specs.Calls.{Outcome}
+use Rattle.machine.proofs.Numbers.{numbered, step-number}
+use Rattle.machine.specs.Calls.{microStepAt, stepped, stepOf}
 use native.Mathlib.Omega.{arith}
 use borrow.Author.Tests.{eq-eqb, ne-eqb}
 use mathlib.Core.Path.{sym, _∙_}
@@ -39,7 +41,9 @@ same-length-2 c = search needs
 -- src/calls.rt:132:9
 returns : tie.Need-returns
 unfolding stepOf
-returns c = rw (← c .before .before .step-refusal .ensures, ne-eqb _ _ (c .before .if1 .taken), c .refused .ensures)
+returns c =
+    numbered (λ (o : Outcome). o .called .answer) (step-number (c .before .before .before .before .before .before .before .before .args .t1) (c .before .before .before .before .before .before .before .before .args .memory .now) (c .before .before .before .before .before .before .before .before .args .owners .now) (c .before .before .before .before .before .before .before .before .args .holders .now) (c .before .before .before .before .before .before .before .before .args .core))
+    (rw (← c .before .before .step-refusal .ensures, ne-eqb _ _ (c .before .if1 .taken), c .refused .ensures))
 
 -- src/calls.rt:134:13
 mul-c : tie.Need-mul-c
@@ -107,8 +111,10 @@ same-length-5 c = search needs
 
 -- src/calls.rt:121:1
 returns-2 : tie.Need-returns-2
-unfolding stepOf stepDone microStepAt
-returns-2 c = rw (← c .before .before .before .before .before .before .before .before .before .before .before .before .before .before .step-refusal .ensures, eq-eqb _ _ (c .before .before .before .before .before .before .before .before .before .before .before .before .before .if1 .left), c .before .before .before .write-word-if .ensures, c .before .before .before .before .before .micro-step .ensures, c .before .before .before .before .before .before .before .before .read-word .ensures, c .before .before .before .before .before .before .before .before .before .before .entry-of .ensures)
+unfolding stepOf stepped microStepAt
+returns-2 c =
+    numbered (λ (o : Outcome). o .called .answer) (step-number (c .before .before .before .before .before .before .before .before .before .before .before .before .before .before .before .before .before .before .before .before .args .t1) (c .before .before .before .before .before .before .before .before .before .before .before .before .before .before .before .before .before .before .before .before .args .memory .now) (c .before .before .before .before .before .before .before .before .before .before .before .before .before .before .before .before .before .before .before .before .args .owners .now) (c .before .before .before .before .before .before .before .before .before .before .before .before .before .before .before .before .before .before .before .before .args .holders .now) (c .before .before .before .before .before .before .before .before .before .before .before .before .before .before .before .before .before .before .before .before .args .core))
+    (rw (← c .before .before .before .before .before .before .before .before .before .before .before .before .before .before .step-refusal .ensures, eq-eqb _ _ (c .before .before .before .before .before .before .before .before .before .before .before .before .before .if1 .left), c .before .before .before .write-word-if .ensures, c .before .before .before .before .before .micro-step .ensures, c .before .before .before .before .before .before .before .before .read-word .ensures, c .before .before .before .before .before .before .before .before .before .before .entry-of .ensures))
 
 pub step-spec : {M : Type 1} → statement M
 step-spec =
