@@ -11,11 +11,11 @@ use lib.Arith.{lt-of-le-ne}
 use lib.Dec.{leb, ltb, eqb}
 use borrow.Author.Tests.{ltb-true, leb-true, leb-false, eqb-true, eqb-false, not-false}
 use Rattle.machine.specs.Basics.{if_then_else_, allBelow}
-use Rattle.machine.specs.Sizes.{coresFit, bytesFit, entriesFit}
+use Rattle.machine.specs.Sizes.{coresFit, bytesFit, entriesFit, tablesFit}
 use Rattle.machine.specs.Entry.{entryOf}
 use Rattle.machine.specs.Ranges.{coreAt, inside, operationFields, valueFields, linkFields, operationFits, addressesFit, placeFits, coreFits, sizesFit, everyCoreFits, inRanges, damaged}
 use Rattle.machine.specs.Kinds.{addressOf}
-use Rattle.machine.specs.Calls.{lentFits, addressRefusal, entryAt, markAt, giveRefusal, stepRefusal, wordRefusal}
+use Rattle.machine.specs.Calls.{lentFits, addressRefusal, entryAt, markAt, startRefusal, giveRefusal, stepRefusal, wordRefusal}
 use Rattle.machine.specs.declared.entry.GuestAddress.{GuestAddress}
 use Rattle.machine.specs.declared.answers.Operation.{Operation}
 use Rattle.machine.specs.declared.cores.Core.{Core}
@@ -72,6 +72,10 @@ at-below (suc n) test i l h = go (λ k. at-below n test i k (both .0)) (eqb i n)
     go rest true e = ap test (eqb-true i n e) ∙ both .1
     go rest false e = rest (lt-of-le-ne (omega arith) (eqb-false i n e))
 
+-- a core below the count is one of the eight
+pub core-small : (m : Machine) {core : ℕ} → inRanges m ≡ true → core < m .count → core < 8
+core-small m h l = let s = sizes-fit m h in omega arith
+
 pub core-fits : (m : Machine) → inRanges m ≡ true → (i : ℕ) → i < 8 → coreFits (m .count) (m .bytes) i (coreAt m i) ≡ true
 unfolding inRanges
 core-fits m h i l = at-below 8 (λ k. coreFits (m .count) (m .bytes) k (coreAt m k)) i l (and₂ (sizesFit m) (everyCoreFits m) h .1)
@@ -118,6 +122,23 @@ address-accepted bytes a h =
     let t = passed-over (not (eqb (a .0 % 4) 0)) 1 (if leb bytes (a .0) then 3 else 0) h in
     let u = passed-over (leb bytes (a .0)) 2 0 (t .1) in
     record { aligned = eqb-true _ _ (not-false _ (t .0)); below = leb-false _ _ (u .0) }
+
+-- a start that is not refused
+pub record StartAccepted (count memory owners holders : ℕ) : Type 0 where
+  pub cores : coresFit count ≡ true
+  pub bytes : bytesFit memory ≡ true
+  pub entries : entriesFit owners ≡ true
+  pub tables : holders ≡ owners
+
+pub start-accepted : (count memory owners holders : ℕ) → startRefusal count memory owners holders ≡ 0 → StartAccepted count memory owners holders
+unfolding startRefusal
+start-accepted count memory owners holders h =
+    let k₁ : ℕ = if not (coresFit count) then 1 else 0 in
+    let t₀ = passed-over (not (bytesFit memory && tablesFit owners holders)) 3 k₁ h in
+    let t₁ = passed-over (not (coresFit count)) 0 0 (t₀ .1) in
+    let b = and₂ (bytesFit memory) (tablesFit owners holders) (not-false _ (t₀ .0)) in
+    let e = and₂ (entriesFit owners) (eqb holders owners) (b .1) in
+    record { cores = not-false _ (t₁ .0); bytes = b .0; entries = e .0; tables = eqb-true _ _ (e .1) }
 
 -- a give that is not refused
 pub record GiveAccepted (m : Machine) (core : ℕ) (o : Operation) : Type 0 where
@@ -206,7 +227,7 @@ pub record Reach (m : Machine) (memory : ℕ) (owners holders : List ℕ) (core 
 pub reach : {m : Machine} {memory : ℕ} {owners holders : List ℕ} {core : ℕ} → StepAccepted m memory owners holders core → Reach m memory owners holders core
 reach {m} {memory} {owners} {holders} {core} h =
     let s = sizes-fit m (h .ranges) in
-    let small : core < 8 = omega arith in
+    let small = core-small m (h .ranges) (h .core-below) in
     let f = fits (m .count) (m .bytes) core (coreAt m core) (core-fits m (h .ranges) core small) in
     let w = word-inside (coreAt m core .address) (s .words) (busy-inside (coreAt m core) f (h .busy)) in
     let e = entry-below (m .entries) (coreAt m core .address) (s .entries) in

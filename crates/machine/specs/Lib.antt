@@ -7,3 +7,4 @@ pub mod Life
 pub mod Ranges
 pub mod Answers
 pub mod Calls
+pub mod Laws

@@ -1,24 +1,18 @@
+-- `machine::calls::address_refusal` meets its contract. Assumes nothing.
 use borrow.Author.Tests.{eq-eqb, le-leb, lt-leb, ne-eqb}
 use borrow.Author.Needs.{needs}
 use Rattle.machine.proofs.calls.address_refusal.Statement.{statement}
 use Rattle.machine.proofs.calls.address_refusal.Tie as tie
-use Rattle.machine.proofs.calls.address_refusal.Reads as reads
-use Rattle.machine.proofs.calls.address_refusal.Lts as lts
-use Rattle.machine.proofs.entry.GuestAddress.place.Reads as place-reads
 
--- src/calls.rt:23:9
 place-requires : tie.Need-place-requires
 place-requires c κs = search needs
 
--- src/calls.rt:25:9
 returns : tie.Need-returns
 returns c = rw (← c .before .place .ensures, ne-eqb _ _ (c .if1 .taken))
 
--- src/calls.rt:28:9
 returns-2 : tie.Need-returns-2
 returns-2 c = rw (← c .before .before .place .ensures, eq-eqb _ _ (c .before .if1 .left), le-leb _ _ (c .if2 .taken))
 
--- src/calls.rt:20:1
 returns-3 : tie.Need-returns-3
 returns-3 c = rw (← c .before .before .place .ensures, eq-eqb _ _ (c .before .if1 .left), lt-leb _ _ (c .if2 .left))
 

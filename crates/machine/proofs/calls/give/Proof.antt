@@ -1,60 +1,45 @@
-use Rattle.machine.specs.declared.state.Called.{Called}
-use Rattle.machine.proofs.Numbers.{numbered, give-number}
-use Rattle.machine.specs.Calls.{giveOf}
-use Rattle.machine.proofs.Accepted.{give-accepted, sizes-fit}
-use borrow.Author.Tests.{eq-eqb, ne-eqb}
-use native.Mathlib.Omega.{arith}
+-- `machine::calls::give` meets its contract. Assumes nothing.
 use mathlib.Core.Path.{_∙_, sym}
+use native.Mathlib.Omega.{arith}
+use borrow.Author.Tests.{eq-eqb, ne-eqb}
 use borrow.Author.Needs.{needs}
+use Rattle.machine.specs.declared.state.Called.{Called}
+use Rattle.machine.specs.Calls.{giveOf}
+use Rattle.machine.proofs.Numbers.{numbered, give-number}
+use Rattle.machine.proofs.Accepted.{give-accepted, sizes-fit}
 use Rattle.machine.proofs.calls.give.Statement.{statement}
 use Rattle.machine.proofs.calls.give.Tie as tie
-use Rattle.machine.proofs.calls.give.Reads as reads
-use Rattle.machine.proofs.calls.give.Lts as lts
-use Rattle.machine.proofs.calls.give_refusal.Reads as give-refusal-reads
-use Rattle.machine.proofs.cores.Core.given.Reads as given-reads
-use Rattle.machine.proofs.state.Called.answered.Reads as answered-reads
-use Rattle.machine.proofs.state.Called.refused.Reads as refused-reads
 
--- src/calls.rt:86:9
 give-refusal-requires : tie.Need-give-refusal-requires
 give-refusal-requires c κs = search needs
 
--- src/calls.rt:88:9
 refused-requires : tie.Need-refused-requires
 refused-requires c κs = search needs
 
--- src/calls.rt:88:9
 returns : tie.Need-returns
 unfolding giveOf
 returns c =
     numbered (λ (r : Called). r .answer) (give-number (c .before .before .before .args .t1) (c .before .before .before .args .core) (c .before .before .before .args .operation))
     (rw (← c .before .before .give-refusal .ensures, ne-eqb _ _ (c .before .if1 .taken)) (c .refused .ensures))
 
--- src/calls.rt:90:13
 mul-c : tie.Need-mul-c
 mul-c c = let a = give-accepted (c .before .before .args .t1) (c .before .before .args .core) (c .before .before .args .operation) (sym (c .before .give-refusal .ensures) ∙ c .if1 .left) in let s = sizes-fit (c .before .before .args .t1) (a .ranges) in omega arith
 
--- src/calls.rt:90:13
 element-copy-out-c : tie.Need-element-copy-out-c
 element-copy-out-c c = let a = give-accepted (c .before .before .args .t1) (c .before .before .args .core) (c .before .before .args .operation) (sym (c .before .give-refusal .ensures) ∙ c .if1 .left) in let s = sizes-fit (c .before .before .args .t1) (a .ranges) in omega arith
 
--- src/calls.rt:92:27
 given-requires : tie.Need-given-requires
 given-requires c κs = search needs
 
--- src/calls.rt:92:5
 mul-t11 : tie.Need-mul-t11
 mul-t11 c = let a = give-accepted (c .before .before .before .before .args .t1) (c .before .before .before .before .args .core) (c .before .before .before .before .args .operation) (sym (c .before .before .before .give-refusal .ensures) ∙ c .before .before .if1 .left) in let s = sizes-fit (c .before .before .before .before .args .t1) (a .ranges) in omega arith
 
--- src/calls.rt:92:5
 element-set-from-machine : tie.Need-element-set-from-machine
 element-set-from-machine c = let a = give-accepted (c .before .before .before .before .args .t1) (c .before .before .before .before .args .core) (c .before .before .before .before .args .operation) (sym (c .before .before .before .give-refusal .ensures) ∙ c .before .before .if1 .left) in let s = sizes-fit (c .before .before .before .before .args .t1) (a .ranges) in omega arith
 
--- src/calls.rt:93:5
 answered-requires : tie.Need-answered-requires
 answered-requires c κs = search needs
 
--- src/calls.rt:83:1
 returns-2 : tie.Need-returns-2
 unfolding giveOf
 returns-2 c =

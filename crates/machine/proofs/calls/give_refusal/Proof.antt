@@ -1,53 +1,40 @@
-use borrow.Author.Tests.{le-leb, lt-leb, not-false}
-use Rattle.machine.proofs.Accepted.{sizes-fit}
-use native.Mathlib.Omega.{arith}
-use Rattle.machine.specs.Calls.{giveRefusal}
+-- `machine::calls::give_refusal` meets its contract. Assumes nothing.
 use mathlib.Core.Path.{_∙_, sym}
+use native.Mathlib.Omega.{arith}
+use borrow.Author.Tests.{le-leb, lt-leb, not-false}
 use borrow.Author.Needs.{needs}
+use Rattle.machine.specs.Calls.{giveRefusal}
+use Rattle.machine.proofs.Accepted.{sizes-fit}
 use Rattle.machine.proofs.calls.give_refusal.Statement.{statement}
 use Rattle.machine.proofs.calls.give_refusal.Tie as tie
-use Rattle.machine.proofs.calls.give_refusal.Reads as reads
-use Rattle.machine.proofs.calls.give_refusal.Lts as lts
-use Rattle.machine.proofs.answers.Operation.address.Reads as address-reads
-use Rattle.machine.proofs.calls.address_refusal.Reads as address-refusal-reads
-use Rattle.machine.proofs.ranges.in_ranges.Reads as in-ranges-reads
 
--- src/calls.rt:69:9
 in-ranges-requires : tie.Need-in-ranges-requires
 in-ranges-requires c κs = search needs
 
--- src/calls.rt:70:9
 returns : tie.Need-returns
 unfolding giveRefusal
 returns c = rw (← c .before .in-ranges .ensures, c .if1 .taken)
 
--- src/calls.rt:73:9
 returns-2 : tie.Need-returns-2
 unfolding giveRefusal
 returns-2 c = rw (← c .before .before .in-ranges .ensures, c .before .if1 .left, le-leb _ _ (c .if2 .taken))
 
--- src/calls.rt:75:13
 mul-c : tie.Need-mul-c
 mul-c c = let s = sizes-fit (c .before .before .before .args .t1) (sym (c .before .before .in-ranges .ensures) ∙ not-false _ (c .before .if1 .left)) in omega arith
 
--- src/calls.rt:75:13
 element-copy-out-c : tie.Need-element-copy-out-c
 element-copy-out-c c = let s = sizes-fit (c .before .before .before .args .t1) (sym (c .before .before .in-ranges .ensures) ∙ not-false _ (c .before .if1 .left)) in omega arith
 
--- src/calls.rt:77:9
 returns-3 : tie.Need-returns-3
 unfolding giveRefusal
 returns-3 c = rw (← c .before .before .before .before .in-ranges .ensures, c .before .before .before .if1 .left, lt-leb _ _ (c .before .before .if2 .left), c .if3 .taken)
 
--- src/calls.rt:79:30
 address-requires : tie.Need-address-requires
 address-requires c κs = search needs
 
--- src/calls.rt:79:5
 address-refusal-requires : tie.Need-address-refusal-requires
 address-refusal-requires c κs = search needs
 
--- src/calls.rt:66:1
 returns-4 : tie.Need-returns-4
 unfolding giveRefusal
 returns-4 c = rw (← c .before .before .before .before .before .before .in-ranges .ensures, c .before .before .before .before .before .if1 .left, lt-leb _ _ (c .before .before .before .before .if2 .left), c .before .before .if3 .left, c .address-refusal .ensures, c .before .address .ensures)

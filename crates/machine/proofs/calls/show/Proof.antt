@@ -1,44 +1,33 @@
+-- `machine::calls::show` meets its contract. Assumes nothing.
+use mathlib.Core.Path.{_∙_, sym}
+use lib.ListN.{length}
+use borrow.Author.Tests.{eq-eqb, ne-eqb}
+use borrow.Author.Needs.{needs}
 use Rattle.machine.specs.declared.state.Called.{Called}
+use Rattle.machine.specs.Calls.{showOf}
 use Rattle.machine.proofs.Numbers.{numbered, show-number}
 use Rattle.machine.proofs.Accepted.{word-accepted, word-lent}
-use borrow.Author.Tests.{eq-eqb, ne-eqb}
-use mathlib.Core.Path.{_∙_, sym}
-use Rattle.machine.specs.Calls.{showOf}
-use lib.ListN.{length}
-use borrow.Author.Needs.{needs}
 use Rattle.machine.proofs.calls.show.Statement.{statement}
 use Rattle.machine.proofs.calls.show.Tie as tie
-use Rattle.machine.proofs.calls.show.Reads as reads
-use Rattle.machine.proofs.calls.show.Lts as lts
-use Rattle.machine.proofs.calls.word_refusal.Reads as word-refusal-reads
-use Rattle.machine.proofs.state.Called.answered.Reads as answered-reads
-use Rattle.machine.proofs.state.Called.refused.Reads as refused-reads
-use Rattle.machine.proofs.word.read_word.Reads as read-word-reads
 
--- src/calls.rt:191:9
 word-refusal-requires : tie.Need-word-refusal-requires
 word-refusal-requires c κs = search needs
 
--- src/calls.rt:193:9
 refused-requires : tie.Need-refused-requires
 refused-requires c κs = search needs
 
--- src/calls.rt:193:9
 returns : tie.Need-returns
 unfolding showOf
 returns c =
     numbered (λ (r : Called). r .answer) (show-number (c .before .before .before .before .args .m) (c .before .before .before .before .args .memory .now) (c .before .before .before .before .args .address))
     (rw (← c .before .before .word-refusal .ensures, ne-eqb _ _ (c .before .if1 .taken)) (c .refused .ensures))
 
--- src/calls.rt:195:35
 read-word-requires : tie.Need-read-word-requires
 read-word-requires c κs = word-lent (word-accepted (c .before .before .before .args .m) (length (c .before .before .before .args .memory .now)) (c .before .before .before .args .address) (sym (c .before .word-refusal .ensures) ∙ c .if1 .left))
 
--- src/calls.rt:195:5
 answered-requires : tie.Need-answered-requires
 answered-requires c κs = search needs
 
--- src/calls.rt:188:1
 returns-2 : tie.Need-returns-2
 unfolding showOf
 returns-2 c =

@@ -1,70 +1,50 @@
-use Rattle.machine.specs.Calls.{Outcome}
-use Rattle.machine.proofs.Numbers.{numbered, start-number}
+-- `machine::calls::start` meets its contract. Assumes nothing.
 use borrow.Author.Tests.{eq-eqb, ne-eqb}
-use Rattle.machine.specs.Calls.{startOf}
 use borrow.Author.Needs.{needs}
+use Rattle.machine.specs.Calls.{Outcome, startOf}
+use Rattle.machine.proofs.Numbers.{numbered, start-number}
 use Rattle.machine.proofs.calls.start.Statement.{statement}
 use Rattle.machine.proofs.calls.start.Tie as tie
-use Rattle.machine.proofs.calls.start.Reads as reads
-use Rattle.machine.proofs.calls.start.Lts as lts
-use Rattle.machine.proofs.calls.start_refusal.Reads as start-refusal-reads
-use Rattle.machine.proofs.state.Called.answered.Reads as answered-reads
-use Rattle.machine.proofs.state.Called.refused.Reads as refused-reads
-use Rattle.machine.proofs.state.Machine.all_idle.Reads as all-idle-reads
-use Rattle.machine.proofs.word.clear.Reads as clear-reads
 
--- src/calls.rt:56:9
 start-refusal-requires : tie.Need-start-refusal-requires
 start-refusal-requires c κs = search needs
 
--- src/calls.rt:58:40
 all-idle-requires : tie.Need-all-idle-requires
 all-idle-requires c κs = search needs
 
--- src/calls.rt:58:9
 refused-requires : tie.Need-refused-requires
 refused-requires c κs = search needs
 
--- src/calls.rt:58:9
 returns : tie.Need-returns
 unfolding startOf
 returns c =
     numbered (λ (o : Outcome). o .called .answer) (start-number (c .before .before .before .before .before .before .before .args .count) (c .before .before .before .before .before .before .before .args .memory .now) (c .before .before .before .before .before .before .before .args .owners .now) (c .before .before .before .before .before .before .before .args .holders .now))
     (rw (← c .before .before .before .start-refusal .ensures, ne-eqb _ _ (c .before .before .if1 .taken), c .refused .ensures, c .before .all-idle .ensures))
 
--- src/calls.rt:60:5
 clear-requires : tie.Need-clear-requires
 clear-requires c κs = search needs
 
--- src/calls.rt:61:5
 clear-requires-2 : tie.Need-clear-requires-2
 clear-requires-2 c κs = search needs
 
--- src/calls.rt:62:5
 clear-requires-3 : tie.Need-clear-requires-3
 clear-requires-3 c κs = search needs
 
--- src/calls.rt:63:37
 all-idle-requires-2 : tie.Need-all-idle-requires-2
 all-idle-requires-2 c κs = search needs
 
--- src/calls.rt:63:5
 answered-requires : tie.Need-answered-requires
 answered-requires c κs = search needs
 
--- src/calls.rt:46:1
 same-length : tie.Need-same-length
 same-length c = search needs
 
--- src/calls.rt:46:1
 same-length-2 : tie.Need-same-length-2
 same-length-2 c = search needs
 
--- src/calls.rt:46:1
 same-length-3 : tie.Need-same-length-3
 same-length-3 c = search needs
 
--- src/calls.rt:46:1
 returns-2 : tie.Need-returns-2
 unfolding startOf
 returns-2 c =

@@ -1,36 +1,26 @@
-use Rattle.machine.specs.Calls.{startRefusal}
+-- `machine::calls::start_refusal` meets its contract. Assumes nothing.
 use borrow.Author.Needs.{needs}
+use Rattle.machine.specs.Calls.{startRefusal}
 use Rattle.machine.proofs.calls.start_refusal.Statement.{statement}
 use Rattle.machine.proofs.calls.start_refusal.Tie as tie
-use Rattle.machine.proofs.calls.start_refusal.Reads as reads
-use Rattle.machine.proofs.calls.start_refusal.Lts as lts
-use Rattle.machine.proofs.ranges.bytes_fit.Reads as bytes-fit-reads
-use Rattle.machine.proofs.ranges.cores_fit.Reads as cores-fit-reads
-use Rattle.machine.proofs.ranges.tables_fit.Reads as tables-fit-reads
 
--- src/calls.rt:36:10
 bytes-fit-requires : tie.Need-bytes-fit-requires
 bytes-fit-requires c κs = search needs
 
--- src/calls.rt:36:38
 tables-fit-requires : tie.Need-tables-fit-requires
 tables-fit-requires c κs = search needs
 
--- src/calls.rt:37:9
 returns : tie.Need-returns
 unfolding startRefusal
 returns c = rw (← c .before .before .bytes-fit .ensures, ← c .before .tables-fit .ensures, c .if1 .taken)
 
--- src/calls.rt:39:9
 cores-fit-requires : tie.Need-cores-fit-requires
 cores-fit-requires c κs = search needs
 
--- src/calls.rt:40:9
 returns-2 : tie.Need-returns-2
 unfolding startRefusal
 returns-2 c = rw (← c .before .before .before .before .bytes-fit .ensures, ← c .before .before .before .tables-fit .ensures, c .before .before .if1 .left, ← c .before .cores-fit .ensures, c .if2 .taken)
 
--- src/calls.rt:33:1
 returns-3 : tie.Need-returns-3
 unfolding startRefusal
 returns-3 c = rw (← c .before .before .before .before .bytes-fit .ensures, ← c .before .before .before .tables-fit .ensures, c .before .before .if1 .left, ← c .before .cores-fit .ensures, c .if2 .left)

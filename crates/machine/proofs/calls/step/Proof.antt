@@ -1,115 +1,85 @@
-use Rattle.machine.specs.Calls.{Outcome}
-use Rattle.machine.proofs.Numbers.{numbered, step-number}
-use Rattle.machine.specs.Calls.{microStepAt, stepped, stepOf}
-use native.Mathlib.Omega.{arith}
-use borrow.Author.Tests.{eq-eqb, ne-eqb}
+-- `machine::calls::step` meets its contract. Assumes nothing.
 use mathlib.Core.Path.{sym, _∙_}
+use native.Mathlib.Omega.{arith}
 use lib.ListN.{length}
-use Rattle.machine.proofs.Accepted.{Reach, reach, step-accepted}
+use borrow.Author.Tests.{eq-eqb, ne-eqb}
 use borrow.Author.Needs.{needs}
+use Rattle.machine.specs.Calls.{Outcome, microStepAt, stepped, stepOf}
+use Rattle.machine.proofs.Numbers.{numbered, step-number}
+use Rattle.machine.proofs.Accepted.{Reach, reach, step-accepted}
 use Rattle.machine.proofs.calls.step.Statement.{statement}
 use Rattle.machine.proofs.calls.step.Tie as tie
-use Rattle.machine.proofs.calls.step.Reads as reads
-use Rattle.machine.proofs.calls.step.Lts as lts
-use Rattle.machine.proofs.calls.step_refusal.Reads as step-refusal-reads
-use Rattle.machine.proofs.cores.Core.micro_step.Reads as micro-step-reads
-use Rattle.machine.proofs.entry.entry_of.Reads as entry-of-reads
-use Rattle.machine.proofs.state.Called.refused.Reads as refused-reads
-use Rattle.machine.proofs.word.read_word.Reads as read-word-reads
-use Rattle.machine.proofs.word.write_word_if.Reads as write-word-if-reads
 
 -- what a step that is not refused can reach
 reached : (c : tie.Else1) → Reach (c .before .before .before .before .before .before .before .args .t1) (length (c .before .before .before .before .before .before .before .args .memory .now)) (c .before .before .before .before .before .before .before .args .owners .now) (c .before .before .before .before .before .before .before .args .holders .now) (c .before .before .before .before .before .before .before .args .core)
 reached c = reach (step-accepted (c .before .before .before .before .before .before .before .args .t1) (length (c .before .before .before .before .before .before .before .args .memory .now)) (c .before .before .before .before .before .before .before .args .owners .now) (c .before .before .before .before .before .before .before .args .holders .now) (c .before .before .before .before .before .before .before .args .core) (sym (c .before .step-refusal .ensures) ∙ c .if1 .left))
 
--- src/calls.rt:130:9
 step-refusal-requires : tie.Need-step-refusal-requires
 step-refusal-requires c κs = search needs
 
--- src/calls.rt:132:9
 refused-requires : tie.Need-refused-requires
 refused-requires c κs = search needs
 
--- src/calls.rt:132:9
 same-length : tie.Need-same-length
 same-length c = search needs
 
--- src/calls.rt:132:9
 same-length-2 : tie.Need-same-length-2
 same-length-2 c = search needs
 
--- src/calls.rt:132:9
 returns : tie.Need-returns
 unfolding stepOf
 returns c =
     numbered (λ (o : Outcome). o .called .answer) (step-number (c .before .before .before .before .before .before .before .before .args .t1) (c .before .before .before .before .before .before .before .before .args .memory .now) (c .before .before .before .before .before .before .before .before .args .owners .now) (c .before .before .before .before .before .before .before .before .args .holders .now) (c .before .before .before .before .before .before .before .before .args .core))
     (rw (← c .before .before .step-refusal .ensures, ne-eqb _ _ (c .before .if1 .taken), c .refused .ensures))
 
--- src/calls.rt:134:13
 mul-c : tie.Need-mul-c
 mul-c c = let s = reached (c) .core-small in omega arith
 
--- src/calls.rt:134:13
 element-copy-out-c : tie.Need-element-copy-out-c
 element-copy-out-c c = reached (c) .core-small
 
--- src/calls.rt:136:13
 entry-of-requires : tie.Need-entry-of-requires
 entry-of-requires c κs = search needs
 
--- src/calls.rt:137:9
 read-word-requires : tie.Need-read-word-requires
 read-word-requires c κs = reached (c .before .before .before .before) .word-there
 
--- src/calls.rt:138:29
 cast-micro-step : tie.Need-cast-micro-step
 cast-micro-step c = let s = reached (c .before .before .before .before .before) .core-small in omega arith
 
--- src/calls.rt:138:41
 slice-read-micro-step : tie.Need-slice-read-micro-step
 slice-read-micro-step c = rw (c .before .before .before .entry-of .ensures) (reached (c .before .before .before .before .before .before) .owner-there)
 
--- src/calls.rt:138:52
 slice-read-micro-step-2 : tie.Need-slice-read-micro-step-2
 slice-read-micro-step-2 c = rw (c .before .before .before .before .entry-of .ensures) (reached (c .before .before .before .before .before .before .before) .holder-there)
 
--- src/calls.rt:138:9
 micro-step-requires : tie.Need-micro-step-requires
 micro-step-requires c κs = reached (c .before .before .before .before .before .before .before) .core-small
 
--- src/calls.rt:139:5
 slice-write-owners : tie.Need-slice-write-owners
 slice-write-owners c = rw (c .before .before .before .before .before .entry-of .ensures) (reached (c .before .before .before .before .before .before .before .before) .owner-there)
 
--- src/calls.rt:140:5
 slice-write-holders : tie.Need-slice-write-holders
 slice-write-holders c = rw (c .before .before .before .before .before .entry-of .ensures) (reached (c .before .before .before .before .before .before .before .before) .holder-there)
 
--- src/calls.rt:141:5
 write-word-if-requires : tie.Need-write-word-if-requires
 write-word-if-requires c κs = reached (c .before .before .before .before .before .before .before .before .before) .word-there
 
--- src/calls.rt:144:5
 mul-next : tie.Need-mul-next
 mul-next c = let s = reached (c .before .before .before .before .before .before .before .before .before .before .before .before .before) .core-small in omega arith
 
--- src/calls.rt:144:5
 element-set-from-next : tie.Need-element-set-from-next
 element-set-from-next c = reached (c .before .before .before .before .before .before .before .before .before .before .before .before .before) .core-small
 
--- src/calls.rt:121:1
 same-length-3 : tie.Need-same-length-3
 same-length-3 c = search needs
 
--- src/calls.rt:121:1
 same-length-4 : tie.Need-same-length-4
 same-length-4 c = search needs
 
--- src/calls.rt:121:1
 same-length-5 : tie.Need-same-length-5
 same-length-5 c = search needs
 
--- src/calls.rt:121:1
 returns-2 : tie.Need-returns-2
 unfolding stepOf stepped microStepAt
 returns-2 c =

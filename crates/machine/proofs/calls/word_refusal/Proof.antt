@@ -1,32 +1,24 @@
+-- `machine::calls::word_refusal` meets its contract. Assumes nothing.
 use borrow.Author.Tests.{eq-eqb, ne-eqb}
-use Rattle.machine.specs.Calls.{wordRefusal}
 use borrow.Author.Needs.{needs}
+use Rattle.machine.specs.Calls.{wordRefusal}
 use Rattle.machine.proofs.calls.word_refusal.Statement.{statement}
 use Rattle.machine.proofs.calls.word_refusal.Tie as tie
-use Rattle.machine.proofs.calls.word_refusal.Reads as reads
-use Rattle.machine.proofs.calls.word_refusal.Lts as lts
-use Rattle.machine.proofs.calls.address_refusal.Reads as address-refusal-reads
-use Rattle.machine.proofs.ranges.in_ranges.Reads as in-ranges-reads
 
--- src/calls.rt:157:9
 in-ranges-requires : tie.Need-in-ranges-requires
 in-ranges-requires c κs = search needs
 
--- src/calls.rt:158:9
 returns : tie.Need-returns
 unfolding wordRefusal
 returns c = rw (← c .before .in-ranges .ensures, c .if1 .taken)
 
--- src/calls.rt:161:9
 returns-2 : tie.Need-returns-2
 unfolding wordRefusal
 returns-2 c = rw (← c .before .before .before .in-ranges .ensures, c .before .before .if1 .left, ne-eqb _ _ (c .if2 .taken))
 
--- src/calls.rt:163:5
 address-refusal-requires : tie.Need-address-refusal-requires
 address-refusal-requires c κs = search needs
 
--- src/calls.rt:154:1
 returns-3 : tie.Need-returns-3
 unfolding wordRefusal
 returns-3 c = rw (← c .before .before .before .before .in-ranges .ensures, c .before .before .before .if1 .left, eq-eqb _ _ (c .before .if2 .left)) (c .address-refusal .ensures)

@@ -1,11 +1,9 @@
-use Rattle.machine.specs.Sizes.{entriesFit}
+-- `machine::ranges::entries_fit` meets its contract. Assumes nothing.
 use mathlib.Core.Path.{refl}
+use Rattle.machine.specs.Sizes.{entriesFit}
 use Rattle.machine.proofs.ranges.entries_fit.Statement.{statement}
 use Rattle.machine.proofs.ranges.entries_fit.Tie as tie
-use Rattle.machine.proofs.ranges.entries_fit.Reads as reads
-use Rattle.machine.proofs.ranges.entries_fit.Lts as lts
 
--- src/ranges.rt:26:1
 returns : tie.Need-returns
 unfolding entriesFit
 returns c = refl

@@ -1,86 +1,64 @@
-use Rattle.machine.proofs.Bytes.{four-read}
-use Rattle.machine.specs.Word.{readWord}
+-- `machine::word::read_word` meets its contract. Assumes nothing.
 use borrow.Author.Needs.{needs}
+use Rattle.machine.specs.Word.{readWord}
+use Rattle.machine.proofs.Bytes.{four-read}
 use Rattle.machine.proofs.word.read_word.Statement.{statement}
 use Rattle.machine.proofs.word.read_word.Tie as tie
-use Rattle.machine.proofs.word.read_word.Reads as reads
-use Rattle.machine.proofs.word.read_word.Lts as lts
-use Rattle.machine.proofs.entry.GuestAddress.place.Reads as place-reads
-use Rattle.machine.proofs.word.wide.Reads as wide-reads
 
--- src/word.rt:21:9
 place-requires : tie.Need-place-requires
 place-requires c κs = search needs
 
--- src/word.rt:22:20
 shared-slice-read-wide : tie.Need-shared-slice-read-wide
 shared-slice-read-wide c = search needs
 
--- src/word.rt:22:15
 wide-requires : tie.Need-wide-requires
 wide-requires c κs = search needs
 
--- src/word.rt:22:52
 add-wide : tie.Need-add-wide
 add-wide c = search needs
 
--- src/word.rt:22:45
 shared-slice-read-wide-2 : tie.Need-shared-slice-read-wide-2
 shared-slice-read-wide-2 c = search needs
 
--- src/word.rt:22:40
 wide-requires-2 : tie.Need-wide-requires-2
 wide-requires-2 c κs = search needs
 
--- src/word.rt:22:34
 mul-low : tie.Need-mul-low
 mul-low c = search needs
 
--- src/word.rt:22:15
 add-low : tie.Need-add-low
 add-low c = search needs
 
--- src/word.rt:23:28
 add-wide-2 : tie.Need-add-wide-2
 add-wide-2 c = search needs
 
--- src/word.rt:23:21
 shared-slice-read-wide-3 : tie.Need-shared-slice-read-wide-3
 shared-slice-read-wide-3 c = search needs
 
--- src/word.rt:23:16
 wide-requires-3 : tie.Need-wide-requires-3
 wide-requires-3 c κs = search needs
 
--- src/word.rt:23:57
 add-wide-3 : tie.Need-add-wide-3
 add-wide-3 c = search needs
 
--- src/word.rt:23:50
 shared-slice-read-wide-4 : tie.Need-shared-slice-read-wide-4
 shared-slice-read-wide-4 c = search needs
 
--- src/word.rt:23:45
 wide-requires-4 : tie.Need-wide-requires-4
 wide-requires-4 c κs = search needs
 
--- src/word.rt:23:39
 mul-high : tie.Need-mul-high
 mul-high c = search needs
 
--- src/word.rt:23:16
 add-high : tie.Need-add-high
 add-high c = search needs
 
--- src/word.rt:24:11
 mul-result : tie.Need-mul-result
 mul-result c = search needs
 
--- src/word.rt:24:5
 add-result : tie.Need-add-result
 add-result c = search needs
 
--- src/word.rt:17:1
 returns : tie.Need-returns
 unfolding readWord
 returns c = rw (c .before .before .before .before .before .before .wide .ensures .0, c .before .before .before .before .wide2 .ensures .0, c .before .before .wide3 .ensures .0, c .wide4 .ensures .0, c .before .before .before .before .before .before .before .before .place .ensures) (four-read (c .before .before .before .before .before .before .before .before .before .before .args .memory .now) (c .before .before .before .before .before .before .before .before .before .before .args .address .0))

@@ -1,67 +1,51 @@
-use Rattle.machine.proofs.Bytes.{four-written}
-use lib.ListN.{length-set}
-use Rattle.machine.specs.Word.{writeWord}
+-- `machine::word::write_word` meets its contract. Assumes nothing.
 use native.Mathlib.Omega.{arith}
+use lib.ListN.{length-set}
 use borrow.Author.Needs.{needs}
+use Rattle.machine.specs.Word.{writeWord}
+use Rattle.machine.proofs.Bytes.{four-written}
 use Rattle.machine.proofs.word.write_word.Statement.{statement}
 use Rattle.machine.proofs.word.write_word.Tie as tie
-use Rattle.machine.proofs.word.write_word.Reads as reads
-use Rattle.machine.proofs.word.write_word.Lts as lts
-use Rattle.machine.proofs.entry.GuestAddress.place.Reads as place-reads
 
--- src/word.rt:31:9
 place-requires : tie.Need-place-requires
 place-requires c κs = search needs
 
--- src/word.rt:32:18
 cast-memory : tie.Need-cast-memory
 cast-memory c = search needs
 
--- src/word.rt:32:5
 slice-write-memory : tie.Need-slice-write-memory
 slice-write-memory c = search needs
 
--- src/word.rt:33:22
 cast-memory-2 : tie.Need-cast-memory-2
 cast-memory-2 c = search needs
 
--- src/word.rt:33:12
 add-memory : tie.Need-add-memory
 add-memory c = search needs
 
--- src/word.rt:33:5
 slice-write-memory-2 : tie.Need-slice-write-memory-2
 slice-write-memory-2 c = simp length-set (omega arith)
 
--- src/word.rt:34:22
 cast-memory-3 : tie.Need-cast-memory-3
 cast-memory-3 c = search needs
 
--- src/word.rt:34:12
 add-memory-2 : tie.Need-add-memory-2
 add-memory-2 c = search needs
 
--- src/word.rt:34:5
 slice-write-memory-3 : tie.Need-slice-write-memory-3
 slice-write-memory-3 c = simp length-set (omega arith)
 
--- src/word.rt:35:22
 cast-memory-4 : tie.Need-cast-memory-4
 cast-memory-4 c = search needs
 
--- src/word.rt:35:12
 add-memory-3 : tie.Need-add-memory-3
 add-memory-3 c = search needs
 
--- src/word.rt:35:5
 slice-write-memory-4 : tie.Need-slice-write-memory-4
 slice-write-memory-4 c = simp length-set (omega arith)
 
--- src/word.rt:27:1
 same-length : tie.Need-same-length
 same-length c = search needs
 
--- src/word.rt:27:1
 returns : tie.Need-returns
 unfolding writeWord
 returns c = rw (c .place .ensures) (four-written (c .before .before .args .memory .now) (c .before .before .args .address .0) (c .before .before .args .value))

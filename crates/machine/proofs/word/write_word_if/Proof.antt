@@ -1,23 +1,17 @@
+-- `machine::word::write_word_if` meets its contract. Assumes nothing.
 use borrow.Author.Needs.{needs}
 use Rattle.machine.proofs.word.write_word_if.Statement.{statement}
 use Rattle.machine.proofs.word.write_word_if.Tie as tie
-use Rattle.machine.proofs.word.write_word_if.Reads as reads
-use Rattle.machine.proofs.word.write_word_if.Lts as lts
-use Rattle.machine.proofs.word.write_word.Reads as write-word-reads
 
--- src/word.rt:44:9
 write-word-requires : tie.Need-write-word-requires
 write-word-requires c κs = search needs
 
--- src/word.rt:39:1
 same-length : tie.Need-same-length
 same-length c = search needs
 
--- src/word.rt:39:1
 returns : tie.Need-returns
 returns c = rw (c .before .before .before .before .if1 .taken) (c .before .before .write-word .ensures)
 
--- src/word.rt:39:1
 returns-2 : tie.Need-returns-2
 returns-2 c = rw (c .if1 .left)
 
