@@ -44,10 +44,12 @@ fn address_refusal(bytes: usize, a: GuestAddress) -> u32
 fn start_refusal(count: usize, memory: usize, owners: usize, holders: usize) -> u32
     ensures { λ r. ⌜ r ≡ startRefusal count memory owners holders ⌝ }
 {
-    if !(ranges::bytes_fit(memory) & ranges::tables_fit(owners, holders)) {
+    let lengths = ranges::bytes_fit(memory) & ranges::tables_fit(owners, holders);
+    let cores = ranges::cores_fit(count);
+    if !lengths {
         return 4;
     }
-    if !ranges::cores_fit(count) {
+    if !cores {
         return 1;
     }
     0
@@ -163,10 +165,12 @@ pub fn step(
 fn word_refusal(m: Machine, memory: usize, address: GuestAddress) -> u32
     ensures { λ r. ⌜ r ≡ wordRefusal m memory address ⌝ }
 {
-    if !ranges::in_ranges(m) {
+    let fits = ranges::in_ranges(m);
+    let lent = memory == m.bytes;
+    if !fits {
         return 5;
     }
-    if memory != m.bytes {
+    if !lent {
         return 4;
     }
     address_refusal(m.bytes, address)
