@@ -16,6 +16,7 @@ use Rattle.machine.specs.Entry.{entryOf}
 use Rattle.machine.specs.Ranges.{coreAt, inside, operationFields, valueFields, linkFields, operationFits, addressesFit, placeFits, coreFits, sizesFit, everyCoreFits, inRanges, damaged}
 use Rattle.machine.specs.Kinds.{addressOf}
 use Rattle.machine.specs.Calls.{lentFits, addressRefusal, entryAt, markAt, startRefusal, giveRefusal, stepRefusal, wordRefusal}
+use Rattle.machine.specs.Reach.{Reach}
 use Rattle.machine.specs.declared.entry.GuestAddress.{GuestAddress}
 use Rattle.machine.specs.declared.answers.Operation.{Operation}
 use Rattle.machine.specs.declared.cores.Core.{Core}
@@ -217,13 +218,7 @@ word-accepted m memory a h =
 pub word-lent : {m : Machine} {memory : ℕ} {a : GuestAddress} → WordAccepted m memory a → a .0 + 4 ≤ memory
 word-lent {m} {memory} {a} h = let w = word-inside a (sizes-fit m (h .ranges) .words) (h .address) in omega arith
 
--- of a step: the core is one of the eight, its word lies in memory, and its entry in both tables
-pub record Reach (m : Machine) (memory : ℕ) (owners holders : List ℕ) (core : ℕ) : Type 0 where
-  pub core-small : core < 8
-  pub word-there : coreAt m core .address .0 + 4 ≤ memory
-  pub owner-there : entryAt m core .0 < length owners
-  pub holder-there : entryAt m core .0 < length holders
-
+-- what a step that is not refused can reach
 pub reach : {m : Machine} {memory : ℕ} {owners holders : List ℕ} {core : ℕ} → StepAccepted m memory owners holders core → Reach m memory owners holders core
 reach {m} {memory} {owners} {holders} {core} h =
     let s = sizes-fit m (h .ranges) in

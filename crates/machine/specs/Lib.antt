@@ -7,4 +7,5 @@ pub mod Life
 pub mod Ranges
 pub mod Answers
 pub mod Calls
+pub mod Reach
 pub mod Laws

@@ -3,6 +3,7 @@ use crate::answers::Answer;
 use crate::answers::Handed;
 use crate::answers::Operation;
 use crate::answers::Record;
+use crate::cores::MicroStep;
 use crate::entry::GuestAddress;
 use crate::entry::entry_of;
 use crate::ranges;
@@ -10,9 +11,9 @@ use crate::state::Called;
 use crate::state::Machine;
 use crate::word;
 ghost use mathlib.Core.Path.{_≡_};
-ghost use Prim.Native.Nat.{_<_};
 ghost use lib.ListN.{length};
 ghost use Rattle.machine.specs.Answers.{numberOf};
+ghost use Rattle.machine.specs.Reach.{Reach};
 ghost use Rattle.machine.specs.Calls.{
   outcome,
   pokeOutcome,
@@ -22,6 +23,8 @@ ghost use Rattle.machine.specs.Calls.{
   giveRefusal,
   giveOf,
   stepRefusal,
+  microStepAt,
+  stepped,
   stepOf,
   wordRefusal,
   pokeOf,
@@ -127,6 +130,48 @@ fn step_refusal(m: Machine, memory: usize, owners: &[u8], holders: &[u8], core: 
     0
 }
 
+// The core's micro-step, on what stands at its address and at its entry.
+fn micro_step_at(m: Machine, memory: &[u8], owners: &[u8], holders: &[u8], core: usize) -> MicroStep
+    requires { ⌜ Reach m (length (now memory)) (now owners) (now holders) core ⌝ }
+    ensures { λ r. ⌜ r ≡ microStepAt m (now (memory .entry)) (now (owners .entry)) (now (holders .entry)) core ⌝ }
+{
+    let c = m.cores[core];
+    let address = c.address;
+    let e = entry_of(m.entries, address).0;
+    let word = word::read_word(memory, address);
+    c.micro_step(core as u8, owners[e], holders[e], word)
+}
+
+// What the micro-step leaves.
+fn stepped(
+    m: Machine,
+    memory: &mut [u8],
+    owners: &mut [u8],
+    holders: &mut [u8],
+    core: usize,
+    made: MicroStep,
+) -> Called
+    requires { ⌜ Reach m (length (now memory)) (now owners) (now holders) core ⌝ }
+    ensures { λ r. ⌜ outcome r (now (memory .exit)) (now (owners .exit)) (now (holders .exit)) ≡ stepped m (now (memory .entry)) (now (owners .entry)) (now (holders .entry)) core made ⌝ }
+{
+    let c = m.cores[core];
+    let address = c.address;
+    let e = entry_of(m.entries, address).0;
+    owners[e] = made.owner;
+    holders[e] = made.holder;
+    word::write_word_if(made.writes, memory, address, c.value);
+    let mut machine = m;
+    let next = made.core;
+    machine.cores[core] = next;
+    let answer = made.answer;
+    let handed = made.made;
+    Called {
+        answer,
+        made: handed,
+        machine,
+    }
+}
+
 // One micro-step of one core.
 pub fn step(
     m: Machine,
@@ -142,24 +187,8 @@ pub fn step(
     if number != 0 {
         return Called::refused(number, m);
     }
-    let c = m.cores[core];
-    let address = c.address;
-    let e = entry_of(m.entries, address).0;
-    let word = word::read_word(memory, address);
-    let made = c.micro_step(core as u8, owners[e], holders[e], word);
-    owners[e] = made.owner;
-    holders[e] = made.holder;
-    word::write_word_if(made.writes, memory, address, c.value);
-    let mut machine = m;
-    let next = made.core;
-    machine.cores[core] = next;
-    let answer = made.answer;
-    let handed = made.made;
-    Called {
-        answer,
-        made: handed,
-        machine,
-    }
+    let made = micro_step_at(m, memory, owners, holders, core);
+    stepped(m, memory, owners, holders, core, made)
 }
 
 fn word_refusal(m: Machine, memory: usize, address: GuestAddress) -> u32

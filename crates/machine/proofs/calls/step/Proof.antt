@@ -1,18 +1,22 @@
 -- `machine::calls::step` meets its contract. Assumes nothing.
 use mathlib.Core.Path.{sym, _∙_}
-use native.Mathlib.Omega.{arith}
 use lib.ListN.{length}
 use borrow.Author.Tests.{eq-eqb, ne-eqb}
 use borrow.Author.Needs.{needs}
-use Rattle.machine.specs.Calls.{Outcome, microStepAt, stepped, stepOf}
+use Rattle.machine.specs.Reach.{Reach}
+use Rattle.machine.specs.Calls.{Outcome, stepOf}
+use Rattle.machine.proofs.Accepted.{reach, step-accepted}
 use Rattle.machine.proofs.Numbers.{numbered, step-number}
-use Rattle.machine.proofs.Accepted.{Reach, reach, step-accepted}
 use Rattle.machine.proofs.calls.step.Statement.{statement}
 use Rattle.machine.proofs.calls.step.Tie as tie
 
--- what a step that is not refused can reach
-reached : (c : tie.Else1) → Reach (c .before .before .before .before .before .before .before .args .t1) (length (c .before .before .before .before .before .before .before .args .memory .now)) (c .before .before .before .before .before .before .before .args .owners .now) (c .before .before .before .before .before .before .before .args .holders .now) (c .before .before .before .before .before .before .before .args .core)
-reached c = reach (step-accepted (c .before .before .before .before .before .before .before .args .t1) (length (c .before .before .before .before .before .before .before .args .memory .now)) (c .before .before .before .before .before .before .before .args .owners .now) (c .before .before .before .before .before .before .before .args .holders .now) (c .before .before .before .before .before .before .before .args .core) (sym (c .before .step-refusal .ensures) ∙ c .if1 .left))
+-- the function's entry, seen from where the step is not refused
+abbrev entry : tie.Else1 → tie.Start
+entry c = c .before .before .before .before .before .before .before
+
+-- what such a step can reach
+reached : (c : tie.Else1) → Reach (entry c .args .m) (length (entry c .args .memory .now)) (entry c .args .owners .now) (entry c .args .holders .now) (entry c .args .core)
+reached c = reach (step-accepted (entry c .args .m) (length (entry c .args .memory .now)) (entry c .args .owners .now) (entry c .args .holders .now) (entry c .args .core) (sym (c .before .step-refusal .ensures) ∙ c .if1 .left))
 
 step-refusal-requires : tie.Need-step-refusal-requires
 step-refusal-requires c κs = search needs
@@ -28,48 +32,13 @@ same-length-2 c = search needs
 
 returns : tie.Need-returns
 unfolding stepOf
-returns c =
-    numbered (λ (o : Outcome). o .called .answer) (step-number (c .before .before .before .before .before .before .before .before .args .t1) (c .before .before .before .before .before .before .before .before .args .memory .now) (c .before .before .before .before .before .before .before .before .args .owners .now) (c .before .before .before .before .before .before .before .before .args .holders .now) (c .before .before .before .before .before .before .before .before .args .core))
-    (rw (← c .before .before .step-refusal .ensures, ne-eqb _ _ (c .before .if1 .taken), c .refused .ensures))
+returns c = numbered (λ (o : Outcome). o .called .answer) (let a = c .before .before .before .before .before .before .before .before .args in step-number (a .m) (a .memory .now) (a .owners .now) (a .holders .now) (a .core)) (rw (← c .before .before .step-refusal .ensures, ne-eqb _ _ (c .before .if1 .taken), c .refused .ensures))
 
-mul-c : tie.Need-mul-c
-mul-c c = let s = reached (c) .core-small in omega arith
+micro-step-at-requires : tie.Need-micro-step-at-requires
+micro-step-at-requires c κs = reached (c .before .before .before)
 
-element-copy-out-c : tie.Need-element-copy-out-c
-element-copy-out-c c = reached (c) .core-small
-
-entry-of-requires : tie.Need-entry-of-requires
-entry-of-requires c κs = search needs
-
-read-word-requires : tie.Need-read-word-requires
-read-word-requires c κs = reached (c .before .before .before .before) .word-there
-
-cast-micro-step : tie.Need-cast-micro-step
-cast-micro-step c = let s = reached (c .before .before .before .before .before) .core-small in omega arith
-
-slice-read-micro-step : tie.Need-slice-read-micro-step
-slice-read-micro-step c = rw (c .before .before .before .entry-of .ensures) (reached (c .before .before .before .before .before .before) .owner-there)
-
-slice-read-micro-step-2 : tie.Need-slice-read-micro-step-2
-slice-read-micro-step-2 c = rw (c .before .before .before .before .entry-of .ensures) (reached (c .before .before .before .before .before .before .before) .holder-there)
-
-micro-step-requires : tie.Need-micro-step-requires
-micro-step-requires c κs = reached (c .before .before .before .before .before .before .before) .core-small
-
-slice-write-owners : tie.Need-slice-write-owners
-slice-write-owners c = rw (c .before .before .before .before .before .entry-of .ensures) (reached (c .before .before .before .before .before .before .before .before) .owner-there)
-
-slice-write-holders : tie.Need-slice-write-holders
-slice-write-holders c = rw (c .before .before .before .before .before .entry-of .ensures) (reached (c .before .before .before .before .before .before .before .before) .holder-there)
-
-write-word-if-requires : tie.Need-write-word-if-requires
-write-word-if-requires c κs = reached (c .before .before .before .before .before .before .before .before .before) .word-there
-
-mul-next : tie.Need-mul-next
-mul-next c = let s = reached (c .before .before .before .before .before .before .before .before .before .before .before .before .before) .core-small in omega arith
-
-element-set-from-next : tie.Need-element-set-from-next
-element-set-from-next c = reached (c .before .before .before .before .before .before .before .before .before .before .before .before .before) .core-small
+stepped-requires : tie.Need-stepped-requires
+stepped-requires c κs = reached (c .before .before .before .before .before .before .before)
 
 same-length-3 : tie.Need-same-length-3
 same-length-3 c = search needs
@@ -81,10 +50,8 @@ same-length-5 : tie.Need-same-length-5
 same-length-5 c = search needs
 
 returns-2 : tie.Need-returns-2
-unfolding stepOf stepped microStepAt
-returns-2 c =
-    numbered (λ (o : Outcome). o .called .answer) (step-number (c .before .before .before .before .before .before .before .before .before .before .before .before .before .before .before .before .before .before .before .before .args .t1) (c .before .before .before .before .before .before .before .before .before .before .before .before .before .before .before .before .before .before .before .before .args .memory .now) (c .before .before .before .before .before .before .before .before .before .before .before .before .before .before .before .before .before .before .before .before .args .owners .now) (c .before .before .before .before .before .before .before .before .before .before .before .before .before .before .before .before .before .before .before .before .args .holders .now) (c .before .before .before .before .before .before .before .before .before .before .before .before .before .before .before .before .before .before .before .before .args .core))
-    (rw (← c .before .before .before .before .before .before .before .before .before .before .before .before .before .before .step-refusal .ensures, eq-eqb _ _ (c .before .before .before .before .before .before .before .before .before .before .before .before .before .if1 .left), c .before .before .before .write-word-if .ensures, c .before .before .before .before .before .micro-step .ensures, c .before .before .before .before .before .before .before .before .read-word .ensures, c .before .before .before .before .before .before .before .before .before .before .entry-of .ensures))
+unfolding stepOf
+returns-2 c = numbered (λ (o : Outcome). o .called .answer) (let a = c .before .before .before .before .before .before .before .before .before .before .before .before .before .before .before .before .before .before .before .before .before .args in step-number (a .m) (a .memory .now) (a .owners .now) (a .holders .now) (a .core)) (rw (← c .before .before .before .before .before .before .before .before .before .before .before .before .before .before .before .step-refusal .ensures, eq-eqb _ _ (c .before .before .before .before .before .before .before .before .before .before .before .before .before .before .if1 .left), ← c .before .before .before .before .before .before .before .before .before .before .micro-step-at .ensures) (c .before .before .before .before .before .before .stepped .ensures))
 
 pub step-spec : {M : Type 1} → statement M
 step-spec =
@@ -95,19 +62,8 @@ step-spec =
     same-length
     same-length-2
     returns
-    mul-c
-    element-copy-out-c
-    entry-of-requires
-    read-word-requires
-    cast-micro-step
-    slice-read-micro-step
-    slice-read-micro-step-2
-    micro-step-requires
-    slice-write-owners
-    slice-write-holders
-    write-word-if-requires
-    mul-next
-    element-set-from-next
+    micro-step-at-requires
+    stepped-requires
     same-length-3
     same-length-4
     same-length-5
