@@ -12,6 +12,7 @@ use crate::state::Machine;
 use crate::word;
 ghost use mathlib.Core.Path.{_≡_};
 ghost use lib.ListN.{length};
+ghost use Rattle.machine.specs.Basics.{if_then_else_};
 ghost use Rattle.machine.specs.Answers.{numberOf};
 ghost use Rattle.machine.specs.Reach.{Reach};
 ghost use Rattle.machine.specs.Calls.{
@@ -31,17 +32,20 @@ ghost use Rattle.machine.specs.Calls.{
   showOf,
 };
 
+// A refusal's number where its test holds, and else what comes after it.
+fn refuse(test: bool, number: u32, rest: u32) -> u32
+    ensures { λ r. ⌜ r ≡ (if test then number else rest) ⌝ }
+{
+    if test { number } else { rest }
+}
+
 fn address_refusal(bytes: usize, a: GuestAddress) -> u32
     ensures { λ r. ⌜ r ≡ addressRefusal bytes a ⌝ }
 {
     let place = a.place();
-    if place % 4 != 0 {
-        return 2;
-    }
-    if bytes <= place {
-        return 3;
-    }
-    0
+    let aligned = place % 4 == 0;
+    let outside = bytes <= place;
+    refuse(!aligned, 2, refuse(outside, 3, 0))
 }
 
 fn start_refusal(count: usize, memory: usize, owners: usize, holders: usize) -> u32
@@ -49,13 +53,7 @@ fn start_refusal(count: usize, memory: usize, owners: usize, holders: usize) -> 
 {
     let lengths = ranges::bytes_fit(memory) & ranges::tables_fit(owners, holders);
     let cores = ranges::cores_fit(count);
-    if !lengths {
-        return 4;
-    }
-    if !cores {
-        return 1;
-    }
-    0
+    refuse(!lengths, 4, refuse(!cores, 1, 0))
 }
 
 // A fresh machine, of the sizes that the lent buffers have.
@@ -124,10 +122,8 @@ fn step_refusal(m: Machine, memory: usize, owners: &[u8], holders: &[u8], core: 
         return 8;
     }
     let e = entry_of(entries, c.address).0;
-    if ranges::damaged(m.count, core as u8, c, owners[e], holders[e]) {
-        return 6;
-    }
-    0
+    let damaged = ranges::damaged(m.count, core as u8, c, owners[e], holders[e]);
+    refuse(damaged, 6, 0)
 }
 
 // The core's micro-step, on what stands at its address and at its entry.
@@ -196,13 +192,11 @@ fn word_refusal(m: Machine, memory: usize, address: GuestAddress) -> u32
 {
     let fits = ranges::in_ranges(m);
     let lent = memory == m.bytes;
-    if !fits {
-        return 5;
-    }
-    if !lent {
-        return 4;
-    }
-    address_refusal(m.bytes, address)
+    refuse(
+        !fits,
+        5,
+        refuse(!lent, 4, address_refusal(m.bytes, address)),
+    )
 }
 
 // A write by the bench, at once.

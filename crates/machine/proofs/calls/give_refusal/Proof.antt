@@ -4,9 +4,13 @@ use native.Mathlib.Omega.{arith}
 use borrow.Author.Tests.{le-leb, lt-leb, not-false}
 use borrow.Author.Needs.{needs}
 use Rattle.machine.specs.Calls.{giveRefusal}
-use Rattle.machine.proofs.Accepted.{sizes-fit}
+use Rattle.machine.proofs.Accepted.{Sizes, sizes-fit}
 use Rattle.machine.proofs.calls.give_refusal.Statement.{statement}
 use Rattle.machine.proofs.calls.give_refusal.Tie as tie
+
+-- where the state is in its ranges, its sizes fit
+fit : (c : tie.Else1) → Sizes (c .before .before .args .t1)
+fit c = sizes-fit (c .before .before .args .t1) (sym (c .before .in-ranges .ensures) ∙ not-false _ (c .if1 .left))
 
 in-ranges-requires : tie.Need-in-ranges-requires
 in-ranges-requires c κs = search needs
@@ -20,10 +24,10 @@ unfolding giveRefusal
 returns-2 c = rw (← c .before .before .in-ranges .ensures, c .before .if1 .left, le-leb _ _ (c .if2 .taken))
 
 mul-c : tie.Need-mul-c
-mul-c c = let s = sizes-fit (c .before .before .before .args .t1) (sym (c .before .before .in-ranges .ensures) ∙ not-false _ (c .before .if1 .left)) in omega arith
+mul-c c = let s = fit (c .before) in omega arith
 
 element-copy-out-c : tie.Need-element-copy-out-c
-element-copy-out-c c = let s = sizes-fit (c .before .before .before .args .t1) (sym (c .before .before .in-ranges .ensures) ∙ not-false _ (c .before .if1 .left)) in omega arith
+element-copy-out-c c = let s = fit (c .before) in omega arith
 
 returns-3 : tie.Need-returns-3
 unfolding giveRefusal

@@ -17,21 +17,17 @@ refused-requires c κs = search needs
 
 returns : tie.Need-returns
 unfolding pokeOf
-returns c =
-    numbered (λ (o : PokeOutcome). o .called .answer) (poke-number (c .before .before .before .before .args .m) (c .before .before .before .before .args .memory .now) (c .before .before .before .before .args .address) (c .before .before .before .before .args .value))
-    (rw (← c .before .before .word-refusal .ensures, ne-eqb _ _ (c .before .if1 .taken), c .refused .ensures))
+returns c = numbered (λ (o : PokeOutcome). o .called .answer) (let a = c .before .before .before .before .args in poke-number (a .m) (a .memory .now) (a .address) (a .value)) (rw (← c .before .before .word-refusal .ensures, ne-eqb _ _ (c .before .if1 .taken), c .refused .ensures))
 
 write-word-requires : tie.Need-write-word-requires
-write-word-requires c κs = word-lent (word-accepted (c .before .before .before .before .args .m) (length (c .before .before .before .before .args .memory .now)) (c .before .before .before .before .args .address) (sym (c .before .before .word-refusal .ensures) ∙ c .before .if1 .left))
+write-word-requires c κs = let a = c .before .before .before .before .args in word-lent (word-accepted (a .m) (length (a .memory .now)) (a .address) (sym (c .before .before .word-refusal .ensures) ∙ c .before .if1 .left))
 
 same-length : tie.Need-same-length
 same-length c = search needs
 
 returns-2 : tie.Need-returns-2
 unfolding pokeOf
-returns-2 c =
-    numbered (λ (o : PokeOutcome). o .called .answer) (poke-number (c .before .before .before .before .before .before .before .args .m) (c .before .before .before .before .before .before .before .args .memory .now) (c .before .before .before .before .before .before .before .args .address) (c .before .before .before .before .before .before .before .args .value))
-    (rw (← c .before .before .before .before .before .word-refusal .ensures, eq-eqb _ _ (c .before .before .before .before .if1 .left), c .before .before .write-word .ensures))
+returns-2 c = numbered (λ (o : PokeOutcome). o .called .answer) (let a = c .before .before .before .before .before .before .before .args in poke-number (a .m) (a .memory .now) (a .address) (a .value)) (rw (← c .before .before .before .before .before .word-refusal .ensures, eq-eqb _ _ (c .before .before .before .before .if1 .left), c .before .before .write-word .ensures))
 
 pub poke-spec : {M : Type 1} → statement M
 poke-spec =

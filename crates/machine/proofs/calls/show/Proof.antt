@@ -18,21 +18,17 @@ refused-requires c κs = search needs
 
 returns : tie.Need-returns
 unfolding showOf
-returns c =
-    numbered (λ (r : Called). r .answer) (show-number (c .before .before .before .before .args .m) (c .before .before .before .before .args .memory .now) (c .before .before .before .before .args .address))
-    (rw (← c .before .before .word-refusal .ensures, ne-eqb _ _ (c .before .if1 .taken)) (c .refused .ensures))
+returns c = numbered (λ (r : Called). r .answer) (let a = c .before .before .before .before .args in show-number (a .m) (a .memory .now) (a .address)) (rw (← c .before .before .word-refusal .ensures, ne-eqb _ _ (c .before .if1 .taken)) (c .refused .ensures))
 
 read-word-requires : tie.Need-read-word-requires
-read-word-requires c κs = word-lent (word-accepted (c .before .before .before .args .m) (length (c .before .before .before .args .memory .now)) (c .before .before .before .args .address) (sym (c .before .word-refusal .ensures) ∙ c .if1 .left))
+read-word-requires c κs = let a = c .before .before .before .args in word-lent (word-accepted (a .m) (length (a .memory .now)) (a .address) (sym (c .before .word-refusal .ensures) ∙ c .if1 .left))
 
 answered-requires : tie.Need-answered-requires
 answered-requires c κs = search needs
 
 returns-2 : tie.Need-returns-2
 unfolding showOf
-returns-2 c =
-    numbered (λ (r : Called). r .answer) (show-number (c .before .before .before .before .before .args .m) (c .before .before .before .before .before .args .memory .now) (c .before .before .before .before .before .args .address))
-    (rw (← c .before .before .before .word-refusal .ensures, eq-eqb _ _ (c .before .before .if1 .left), ← c .before .read-word .ensures) (c .answered .ensures))
+returns-2 c = numbered (λ (r : Called). r .answer) (let a = c .before .before .before .before .before .args in show-number (a .m) (a .memory .now) (a .address)) (rw (← c .before .before .before .word-refusal .ensures, eq-eqb _ _ (c .before .before .if1 .left), ← c .before .read-word .ensures) (c .answered .ensures))
 
 pub show-spec : {M : Type 1} → statement M
 show-spec =

@@ -17,9 +17,7 @@ refused-requires c κs = search needs
 
 returns : tie.Need-returns
 unfolding startOf
-returns c =
-    numbered (λ (o : Outcome). o .called .answer) (start-number (c .before .before .before .before .before .before .before .args .count) (c .before .before .before .before .before .before .before .args .memory .now) (c .before .before .before .before .before .before .before .args .owners .now) (c .before .before .before .before .before .before .before .args .holders .now))
-    (rw (← c .before .before .before .start-refusal .ensures, ne-eqb _ _ (c .before .before .if1 .taken), c .refused .ensures, c .before .all-idle .ensures))
+returns c = numbered (λ (o : Outcome). o .called .answer) (let a = c .before .before .before .before .before .before .before .args in start-number (a .count) (a .memory .now) (a .owners .now) (a .holders .now)) (rw (← c .before .before .before .start-refusal .ensures, ne-eqb _ _ (c .before .before .if1 .taken), c .refused .ensures, c .before .all-idle .ensures))
 
 clear-requires : tie.Need-clear-requires
 clear-requires c κs = search needs
@@ -47,9 +45,7 @@ same-length-3 c = search needs
 
 returns-2 : tie.Need-returns-2
 unfolding startOf
-returns-2 c =
-    numbered (λ (o : Outcome). o .called .answer) (start-number (c .before .before .before .before .before .before .before .before .before .before .before .before .before .before .before .before .before .before .before .args .count) (c .before .before .before .before .before .before .before .before .before .before .before .before .before .before .before .before .before .before .before .args .memory .now) (c .before .before .before .before .before .before .before .before .before .before .before .before .before .before .before .before .before .before .before .args .owners .now) (c .before .before .before .before .before .before .before .before .before .before .before .before .before .before .before .before .before .before .before .args .holders .now))
-    (rw (← c .before .before .before .before .before .before .before .before .before .before .before .before .before .before .before .start-refusal .ensures, eq-eqb _ _ (c .before .before .before .before .before .before .before .before .before .before .before .before .before .before .if1 .left), c .answered .ensures, c .before .all-idle2 .ensures, c .before .before .before .before .before .before .before .before .before .before .before .before .clear .ensures, c .before .before .before .before .before .before .before .before .clear2 .ensures, c .before .before .before .before .clear3 .ensures))
+returns-2 c = numbered (λ (o : Outcome). o .called .answer) (let a = c .before .before .before .before .before .before .before .before .before .before .before .before .before .before .before .before .before .before .before .args in start-number (a .count) (a .memory .now) (a .owners .now) (a .holders .now)) (rw (← c .before .before .before .before .before .before .before .before .before .before .before .before .before .before .before .start-refusal .ensures, eq-eqb _ _ (c .before .before .before .before .before .before .before .before .before .before .before .before .before .before .if1 .left), c .answered .ensures, c .before .all-idle2 .ensures, c .before .before .before .before .before .before .before .before .before .before .before .before .clear .ensures, c .before .before .before .before .before .before .before .before .clear2 .ensures, c .before .before .before .before .clear3 .ensures))
 
 pub start-spec : {M : Type 1} → statement M
 start-spec =

@@ -13,17 +13,15 @@ tables-fit-requires c κs = search needs
 cores-fit-requires : tie.Need-cores-fit-requires
 cores-fit-requires c κs = search needs
 
+refuse-requires : tie.Need-refuse-requires
+refuse-requires c κs = search needs
+
+refuse-requires-2 : tie.Need-refuse-requires-2
+refuse-requires-2 c κs = search needs
+
 returns : tie.Need-returns
 unfolding startRefusal
-returns c = rw (← c .before .before .before .bytes-fit .ensures, ← c .before .before .tables-fit .ensures, c .if1 .taken)
-
-returns-2 : tie.Need-returns-2
-unfolding startRefusal
-returns-2 c = rw (← c .before .before .before .before .bytes-fit .ensures, ← c .before .before .before .tables-fit .ensures, c .before .if1 .left, ← c .before .before .cores-fit .ensures, c .if2 .taken)
-
-returns-3 : tie.Need-returns-3
-unfolding startRefusal
-returns-3 c = rw (← c .before .before .before .before .bytes-fit .ensures, ← c .before .before .before .tables-fit .ensures, c .before .if1 .left, ← c .before .before .cores-fit .ensures, c .if2 .left)
+returns c = rw (c .refuse2 .ensures, c .before .refuse .ensures, c .before .before .before .before .bytes-fit .ensures, c .before .before .before .tables-fit .ensures, c .before .before .cores-fit .ensures)
 
 pub start-refusal-spec : {M : Type 1} → statement M
 start-refusal-spec =
@@ -32,6 +30,6 @@ start-refusal-spec =
     bytes-fit-requires
     tables-fit-requires
     cores-fit-requires
-    returns
-    returns-2
-    returns-3)
+    refuse-requires
+    refuse-requires-2
+    returns)

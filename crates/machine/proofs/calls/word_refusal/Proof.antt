@@ -7,21 +7,25 @@ use Rattle.machine.proofs.calls.word_refusal.Tie as tie
 in-ranges-requires : tie.Need-in-ranges-requires
 in-ranges-requires c κs = search needs
 
-returns : tie.Need-returns
-unfolding wordRefusal
-returns c = rw (← c .before .before .in-ranges .ensures, c .if1 .taken)
-
-returns-2 : tie.Need-returns-2
-unfolding wordRefusal
-returns-2 c = rw (← c .before .before .before .in-ranges .ensures, c .before .if1 .left, c .if2 .taken)
-
 address-refusal-requires : tie.Need-address-refusal-requires
 address-refusal-requires c κs = search needs
 
-returns-3 : tie.Need-returns-3
+refuse-requires : tie.Need-refuse-requires
+refuse-requires c κs = search needs
+
+refuse-requires-2 : tie.Need-refuse-requires-2
+refuse-requires-2 c κs = search needs
+
+returns : tie.Need-returns
 unfolding wordRefusal
-returns-3 c = rw (← c .before .before .before .before .in-ranges .ensures, c .before .before .if1 .left, c .before .if2 .left) (c .address-refusal .ensures)
+returns c = rw (c .refuse2 .ensures, c .before .refuse .ensures, c .before .before .address-refusal .ensures, c .before .before .before .before .in-ranges .ensures)
 
 pub word-refusal-spec : {M : Type 1} → statement M
 word-refusal-spec =
-    tie.close (tie.spec in-ranges-requires returns returns-2 address-refusal-requires returns-3)
+    tie.close
+    (tie.spec
+    in-ranges-requires
+    address-refusal-requires
+    refuse-requires
+    refuse-requires-2
+    returns)
