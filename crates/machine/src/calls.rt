@@ -192,11 +192,9 @@ fn word_refusal(m: Machine, memory: usize, address: GuestAddress) -> u32
 {
     let fits = ranges::in_ranges(m);
     let lent = memory == m.bytes;
-    refuse(
-        !fits,
-        5,
-        refuse(!lent, 4, address_refusal(m.bytes, address)),
-    )
+    let number = address_refusal(m.bytes, address);
+    let rest = refuse(!lent, 4, number);
+    refuse(!fits, 5, rest)
 }
 
 // A write by the bench, at once.
