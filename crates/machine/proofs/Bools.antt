@@ -15,6 +15,10 @@ and₃ true true c h = (refl, refl, h)
 and₃ true false c h = absurd (false≢true h)
 and₃ false b c h = absurd (false≢true h)
 
+pub or-true : (t : Bool) → t || true ≡ true
+or-true true = refl
+or-true false = refl
+
 -- a test of what is in use, where it is in use
 pub in-use : (a b : Bool) → a ≡ true → not a || b ≡ true → b ≡ true
 in-use true b p h = h

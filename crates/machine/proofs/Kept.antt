@@ -22,13 +22,9 @@ use Rattle.machine.specs.declared.answers.Operation.the-variants.{Load, 
 use Rattle.machine.specs.declared.cores.Core.{Core}
 use Rattle.machine.specs.declared.cores.MicroStep.{MicroStep}
 use Rattle.machine.specs.declared.state.Machine.{Machine}
-use Rattle.machine.proofs.Bools.{and₂, and₃, in-use}
+use Rattle.machine.proofs.Bools.{and₂, and₃, or-true, in-use}
 use Rattle.machine.proofs.Accepted.{Fits, fits, Inside, core-fits}
 use Rattle.machine.proofs.Numbers.{of-both}
-
-or-true : (t : Bool) → t || true ≡ true
-or-true true = refl
-or-true false = refl
 
 -- an operation that occurs and is no load
 which : (operation : ℕ) → operationOccurs operation ≡ true → isLoad operation ≡ false → (operation ≡ 2) ⊎ ((operation ≡ 3) ⊎ (operation ≡ 4))
@@ -190,7 +186,7 @@ all-below zero test each = refl
 all-below (suc n) test each = rw (all-below n test (λ i l. each i (omega arith)), each n (omega arith))
 
 -- an element of a list with one element set is that one or the old one
-set-or-old : {A : Type 0} (P : A → Type 0) (list : List A) (i j : ℕ) (a d : A) → (j ≡ i → P a) → P (getD list j d) → P (getD (set list i a) j d)
+pub set-or-old : {A : Type 0} (P : A → Type 0) (list : List A) (i j : ℕ) (a d : A) → (j ≡ i → P a) → P (getD list j d) → P (getD (set list i a) j d)
 set-or-old P list i j a d new old = go (eqb j i) refl (ltb i (length list)) refl
   where
     go : (t : Bool) → eqb j i ≡ t → (u : Bool) → ltb i (length list) ≡ u → P (getD (set list i a) j d)
@@ -199,7 +195,7 @@ set-or-old P list i j a d new old = go (eqb j i) refl (ltb i (length list)) refl
     go false e u l = rw (getD-set-other list i j a d (eqb-false j i e)) old
 
 -- a machine of idle cores
-idle-anywhere : (n i : ℕ) → getD (replicate n idle) i idle ≡ idle
+pub idle-anywhere : (n i : ℕ) → getD (replicate n idle) i idle ≡ idle
 idle-anywhere zero i = refl
 idle-anywhere (suc n) zero = refl
 idle-anywhere (suc n) (suc i) = idle-anywhere n i

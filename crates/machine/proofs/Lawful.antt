@@ -87,7 +87,7 @@ module _ (count : ℕ) (memory owners holders : List ℕ) where
       if-accepted (λ (o : Outcome). o .called .answer) P (startRefusal count (length memory) (length owners) (length holders)) (λ k. outcome (refused k (allIdle 0 0 0)) memory owners holders)
       (started count memory owners holders) refl (λ z. holds (start-accepted count (length memory) (length owners) (length holders) z))
 
-  started-sound : StartAccepted count (length memory) (length owners) (length holders) → Sound (started count memory owners holders)
+  pub started-sound : StartAccepted count (length memory) (length owners) (length holders) → Sound (started count memory owners holders)
   started-sound a =
       record {
         ranges = fresh-fits count (length memory) (length owners) (a .cores) (a .bytes) (a .entries);

@@ -6,3 +6,8 @@ pub mod Words
 pub mod Kept
 pub mod Lawful
 pub mod Determined
+pub mod Judging
+pub mod Phases
+pub mod Running
+pub mod Transitions
+pub mod Invariant

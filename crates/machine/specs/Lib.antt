@@ -9,3 +9,8 @@ pub mod Answers
 pub mod Calls
 pub mod Reach
 pub mod Laws
+pub mod History
+pub mod Riscv
+pub mod Causes
+pub mod Reference
+pub mod Runs

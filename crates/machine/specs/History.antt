@@ -1,0 +1,92 @@
+-- Document 01, "When a store-conditional succeeds", judged from the history of access steps. A history is the records handed out, the latest first; `entry` is the entry rule.
+use mathlib.Core.Path.{_≡_}
+use mathlib.Core.Logic.{_⊎_}
+use mathlib.Core.Bool.{Bool, true, false, not, _&&_, _||_}
+use mathlib.Core.List.{List, [], _∷_, _++_}
+use Prim.Native.Nat.{ℕ}
+use lib.Dec.{eqb}
+use Rattle.machine.specs.Basics.{if_then_else_}
+use Rattle.machine.specs.Sizes.{written}
+use Rattle.machine.specs.Life.{nowhere}
+use Rattle.machine.specs.declared.entry.GuestAddress.{GuestAddress}
+use Rattle.machine.specs.declared.entry.EntryNumber.{EntryNumber}
+use Rattle.machine.specs.declared.answers.Record.{Record}
+
+abbrev pub History : Type 0
+History = List Record
+
+-- The rule as it is worded.
+
+-- no access of the history is of this sort
+abbrev pub Never : (Record → Type 0) → History → Type 0
+Never sort [] = Unit {0}
+Never sort (r ∷ h) = (sort r → ⊥) × Never sort h
+
+-- an ll by a core; an sc by it, whether it succeeded or not
+abbrev pub LlBy : ℕ → Record → Type 0
+LlBy c r = (r .core ≡ c) × (r .kind ≡ 2)
+
+abbrev pub ScBy : ℕ → Record → Type 0
+ScBy c r = (r .core ≡ c) × ((r .kind ≡ 4) ⊎ (r .kind ≡ 5))
+
+-- "another core has done an ll, a store or a successful sc at any address with the same entry"
+abbrev pub SpoiledBy : (GuestAddress → EntryNumber) → ℕ → GuestAddress → Record → Type 0
+SpoiledBy entry c a r = (r .core ≡ c → ⊥) × ((r .kind ≡ 2) ⊎ ((r .kind ≡ 3) ⊎ (r .kind ≡ 4))) × (entry (r .address) ≡ entry a)
+
+-- "c has done an ll": the latest, what was before it and what has been since
+pub record LatestLl (c : ℕ) (history : History) : Type 0 where
+  pub since : History
+  pub ll : Record
+  pub before : History
+  pub split : history ≡ since ++ ll ∷ before
+  pub by-core : LlBy c ll
+  pub latest : Never (LlBy c) since
+
+-- "core c's sc at address a succeeds exactly if c has done an ll, the latest was at a, c has done no sc since, and since that ll no other core has done an ll, a store or a successful sc at any address with the same entry"
+pub record Succeeds (entry : GuestAddress → EntryNumber) (c : ℕ) (a : GuestAddress) (history : History) : Type 0 where
+  pub done : LatestLl c history
+  pub there : done .ll .address ≡ a
+  pub no-sc : Never (ScBy c) (done .since)
+  pub unspoiled : Never (SpoiledBy entry c a) (done .since)
+
+-- The same, as functions that decide it.
+
+-- an ll and an sc by this core; an access by another that ends links at its entry
+abbrev pub ownLl : ℕ → Record → Bool
+ownLl c r = eqb (r .core) c && eqb (r .kind) 2
+
+abbrev pub ownSc : ℕ → Record → Bool
+ownSc c r = eqb (r .core) c && (eqb (r .kind) 4 || eqb (r .kind) 5)
+
+abbrev pub spoils : (GuestAddress → EntryNumber) → ℕ → GuestAddress → Record → Bool
+spoils entry c a r = not (eqb (r .core) c) && (eqb (r .kind) 2 || (eqb (r .kind) 3 || eqb (r .kind) 4)) && eqb (entry (r .address) .0) (entry a .0)
+
+unfoldable pub succeeds : (GuestAddress → EntryNumber) → ℕ → GuestAddress → History → Bool
+succeeds entry c a [] = false
+succeeds entry c a (r ∷ h) = if ownLl c r then eqb (r .address .0) (a .0) else if ownSc c r then false else if spoils entry c a r then false else succeeds entry c a h
+
+-- The links and the owner marks that a history makes.
+
+pub record Link : Type 0 where
+  pub linked : Bool
+  pub link : GuestAddress
+
+abbrev pub noLink : Link
+noLink = record { linked = false; link = nowhere }
+
+-- a core's link is its latest ll's address, and none where it has done no ll, or an sc since
+unfoldable pub linkOf : ℕ → History → Link
+linkOf c [] = noLink
+linkOf c (r ∷ h) = if ownLl c r then record { linked = true; link = r .address } else if ownSc c r then noLink else linkOf c h
+
+-- what an access makes of its entry's owner
+unfoldable pub ownerAfter : Record → ℕ → ℕ
+ownerAfter r owner =
+    if eqb (r .kind) 2 then written (r .core)
+    else if eqb (r .kind) 3 then if eqb owner (written (r .core)) then owner else 0
+    else if eqb (r .kind) 4 then 0
+    else owner
+
+unfoldable pub ownerOf : (GuestAddress → EntryNumber) → ℕ → History → ℕ
+ownerOf entry e [] = 0
+ownerOf entry e (r ∷ h) = if eqb (entry (r .address) .0) e then ownerAfter r (ownerOf entry e h) else ownerOf entry e h
