@@ -10,7 +10,5 @@ pub mod Calls
 pub mod Reach
 pub mod Laws
 pub mod History
-pub mod Riscv
-pub mod Causes
 pub mod Reference
 pub mod Runs

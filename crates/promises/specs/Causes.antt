@@ -1,10 +1,11 @@
 -- Document 01: "So the failure causes are: no link, link elsewhere, or such an access by another core."
 use mathlib.Core.Path.{_≡_}
 use Prim.Native.Nat.{ℕ}
-use Rattle.machine.specs.History.{History, Never, LlBy, ScBy, SpoiledBy, LatestLl}
-use Rattle.machine.specs.Riscv.{Some}
+use Rattle.machine.specs.History.{History}
+use Rattle.promises.specs.Success.{Never, LlBy, ScBy, SpoiledBy, LatestLl}
+use Rattle.promises.specs.Riscv.{Some}
 use Rattle.machine.specs.declared.entry.GuestAddress.{GuestAddress}
 use Rattle.machine.specs.declared.entry.EntryNumber.{EntryNumber}
 
 pub data Cause (entry : GuestAddress → EntryNumber) (c : ℕ) (a : GuestAddress) (history : History) : Type 0 where
   -- no link: the core has done no ll, or an sc since the latest

@@ -1,0 +1,1 @@
+// No code: what is promised of the machine stands in specs/, and its proofs in proofs/.
