@@ -120,7 +120,7 @@ module _ {count bytes i : ℕ} (c : Core) (l : i < count) (f : Fits count bytes 
     store-kept n k = onward (advanced c 4) refl refl refl (has-step 4 refl refl o) (rw (b, k) (rw (b, k) at (f .value-fields))) (f .link-fields) link-inside
 
     sc-kept : c .next ≡ 3 → c .operation ≡ 4 → coreFits count bytes i (scAccess i c 0 0 .core) ≡ true
-    sc-kept n k = onward (scAccess i c 0 0 .core) refl refl refl (has-step 4 refl refl o) (rw (b, k) (rw (b, k, n) at (f .value-fields))) refl refl
+    sc-kept n k = onward (scAccess i c 0 0 .core) refl refl refl (has-step 4 refl refl o) (rw (b, k) (rw (b, k, n) at (f .value-fields))) (search (f .link-fields)) (search link-inside)
 
 -- by a choice's test, with what it says
 of-cases : {A : Type 0} (P : A → Type 0) (t : Bool) {a b : A} → (t ≡ true → P a) → (t ≡ false → P b) → P (if t then a else b)

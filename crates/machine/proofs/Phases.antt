@@ -7,7 +7,7 @@ use lib.Dec.{eqb}
 use Rattle.machine.specs.Basics.{if_then_else_}
 use Rattle.machine.specs.Sizes.{written}
 use Rattle.machine.specs.Kinds.{addressOf}
-use Rattle.machine.specs.Life.{resting, given, advanced, judged, moves, microStep, loadStep, lockStep, markStep, accessStep, delivered}
+use Rattle.machine.specs.Life.{resting, given, advanced, judged, moves, llMark, storeMark, scMark, passes, llAccess, storeAccess, scAccess, microStep, loadStep, lockStep, markStep, accessStep, delivered}
 use Rattle.machine.specs.History.{Link, noLink}
 use Rattle.machine.specs.declared.entry.GuestAddress.{GuestAddress}
 use Rattle.machine.specs.declared.answers.Operation.{Operation}
@@ -51,18 +51,18 @@ picture (leaves l passed read) k =
     let c = given (resting (k .linked) (k .link)) (operationOf l) in
     record { busy = true; operation = c .operation; next = 4; passed = passed; linked = k .linked; address = c .address; value = c .value; read = read; link = k .link }
 
--- what step 2 makes of the owner, and what it judges
+-- what step 2 makes of the owner, and what it judges, as the rule has it
 abbrev pub marked : ℕ → Locked → ℕ → ℕ
-marked me (ll a) owner = written me
-marked me (store a v) owner = if eqb owner (written me) then owner else 0
-marked me (sc a v) owner = owner
+marked me (ll a) owner = llMark me (picture (holds (ll a)) noLink) owner 0 .owner
+marked me (store a v) owner = storeMark me (picture (holds (store a v)) noLink) owner 0 .owner
+marked me (sc a v) owner = scMark me (picture (holds (sc a v)) noLink) owner 0 .owner
 
 abbrev pub tested : ℕ → Locked → Link → ℕ → Bool
 tested me (ll a) k owner = false
 tested me (store a v) k owner = false
-tested me (sc a v) k owner = k .linked && eqb (k .link .0) (a .0) && eqb owner (written me)
+tested me (sc a v) k owner = passes me (picture (holds (sc a v)) k) owner
 
--- what step 3 makes: the record's kind and value, the link, the owner, what was read, and whether it writes
+-- what step 3 makes: the record's kind and value, the link and the owner, what was read, and whether it writes
 abbrev pub kindAt : Locked → Bool → ℕ
 kindAt (ll a) passed = 2
 kindAt (store a v) passed = 3
@@ -73,15 +73,18 @@ valueAt (ll a) word = word
 valueAt (store a v) word = v
 valueAt (sc a v) word = v
 
-abbrev pub linkAt : Locked → Link → Link
-linkAt (ll a) k = record { linked = true; link = a }
-linkAt (store a v) k = k
-linkAt (sc a v) k = noLink
+abbrev linkOfCore : Core → Link
+linkOfCore c = record { linked = c .linked; link = c .link }
+
+abbrev pub linkAt : Locked → Bool → Link → Link
+linkAt (ll a) passed k = linkOfCore (llAccess 0 (picture (reaches (ll a) passed) k) 0 0 0 .core)
+linkAt (store a v) passed k = linkOfCore (storeAccess 0 (picture (reaches (store a v) passed) k) 0 0 .core)
+linkAt (sc a v) passed k = linkOfCore (scAccess 0 (picture (reaches (sc a v) passed) k) 0 0 .core)
 
 abbrev pub ownerAt : Locked → Bool → ℕ → ℕ
-ownerAt (ll a) passed owner = owner
-ownerAt (store a v) passed owner = owner
-ownerAt (sc a v) passed owner = if passed then 0 else owner
+ownerAt (ll a) passed owner = llAccess 0 (picture (reaches (ll a) passed) noLink) owner 0 0 .owner
+ownerAt (store a v) passed owner = storeAccess 0 (picture (reaches (store a v) passed) noLink) owner 0 .owner
+ownerAt (sc a v) passed owner = scAccess 0 (picture (reaches (sc a v) passed) noLink) owner 0 .owner
 
 abbrev pub readAt : Locked → ℕ → ℕ
 readAt (ll a) word = word
@@ -123,7 +126,7 @@ module _ (me : ℕ) (k : Link) (owner holder word : ℕ) where
       ≡ record {
         answer = Answered.Moved;
         made = One (record { core = me; kind = kindAt l passed; address = placeOf l; value = valueAt l word });
-        core = picture (leaves l passed (readAt l word)) (linkAt l k);
+        core = picture (leaves l passed (readAt l word)) (linkAt l passed k);
         owner = ownerAt l passed owner;
         holder = holder;
         writes = writesAt l passed;

@@ -86,7 +86,7 @@ module _ (n : ℕ) (zeros : List ℕ) where
   -- what a call leaves, with the lists that it makes
   abbrev pub Next : Call → History → List Whole → (ℕ → List Operation) → (ℕ → List Answer) → Outcome → Type 0
   Next call h ws gs ds x =
-      Inv x (handed (x .called .made) h) (accessed (x .called .made) call gs ws) (λ i. taken i call (x .called .answer) (gs i)) (λ i. delivers i call (x .called .answer) (ds i))
+      Inv x (handed (x .called .made) h) (accessed call (x .called .made) gs ws) (λ i. taken i call (x .called .answer) (gs i)) (λ i. delivers i call (x .called .answer) (ds i))
 
 -- one number's phase renewed
 abbrev pub renew : (ℕ → Phase) → ℕ → Phase → ℕ → Phase

@@ -148,7 +148,7 @@ judged-right entry h c (store a v) passed p = tt
 judged-right entry h c (sc a v) passed p = link-and-owner entry c a h ∙ sym p
 
 -- the link and the owner that the access leaves are the history's
-link-left : (c : ℕ) (h : History) (l : Locked) (passed : Bool) (word : ℕ) → linkOf c (accessAt c l passed word ∷ h) ≡ linkAt l (linkOf c h)
+link-left : (c : ℕ) (h : History) (l : Locked) (passed : Bool) (word : ℕ) → linkOf c (accessAt c l passed word ∷ h) ≡ linkAt l passed (linkOf c h)
 link-left c h (ll a) passed word = link-ll c (accessAt c (ll a) passed word) h refl refl
 link-left c h (store a v) passed word = link-quiet c (accessAt c (store a v) passed word) h refl refl
 link-left c h (sc a v) true word = link-sc c (accessAt c (sc a v) true word) h refl refl refl
@@ -422,14 +422,14 @@ module _ (n : ℕ) (zeros : List ℕ) (o : Outcome) (h : History) (ws : List Who
     -- step 3: the access
     pub access-next : (l : Locked) (passed : Bool) → entryOf n (placeOf l) .0 ≡ e₀ → CoreOk n zeros o h ws c (reaches l passed) (gs c) (ds c)
         → (getD (o .holders) e₀ 0 ≡ written c) × (getD (o .owners) e₀ 0 ≡ marked c l (ownerOf (entryOf n) e₀ h)) → Judged (entryOf n) h c l passed
-        → Sound (left Answered.Moved (One (accessAt c l passed (readWord (o .memory) (placeOf l)))) (picture (leaves l passed (readAt l (readWord (o .memory) (placeOf l)))) (linkAt l (linkOf c h)))
+        → Sound (left Answered.Moved (One (accessAt c l passed (readWord (o .memory) (placeOf l)))) (picture (leaves l passed (readAt l (readWord (o .memory) (placeOf l)))) (linkAt l passed (linkOf c h)))
         (if writesAt l passed then writeWord (o .memory) (placeOf l) (valueOf (operationOf l)) else o .memory) (ownerAt l passed (getD (o .owners) e₀ 0)) (getD (o .holders) e₀ 0))
-        → Next n zeros (step c) h ws gs ds (left Answered.Moved (One (accessAt c l passed (readWord (o .memory) (placeOf l)))) (picture (leaves l passed (readAt l (readWord (o .memory) (placeOf l)))) (linkAt l (linkOf c h)))
+        → Next n zeros (step c) h ws gs ds (left Answered.Moved (One (accessAt c l passed (readWord (o .memory) (placeOf l)))) (picture (leaves l passed (readAt l (readWord (o .memory) (placeOf l)))) (linkAt l passed (linkOf c h)))
         (if writesAt l passed then writeWord (o .memory) (placeOf l) (valueOf (operationOf l)) else o .memory) (ownerAt l passed (getD (o .owners) e₀ 0)) (getD (o .holders) e₀ 0))
     access-next l passed at old t j sound =
         let w = readWord (o .memory) (placeOf l) in
         let r = accessAt c l passed w in
-        let y = picture (leaves l passed (readAt l w)) (linkAt l (linkOf c h)) in
+        let y = picture (leaves l passed (readAt l w)) (linkAt l passed (linkOf c h)) in
         let owner = getD (o .owners) e₀ 0 in
         let memory = if writesAt l passed then writeWord (o .memory) (placeOf l) (valueOf (operationOf l)) else o .memory in
         let ref = refer (entryOf n) zeros ws in

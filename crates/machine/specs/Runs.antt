@@ -95,15 +95,18 @@ lastOf [] = Asked.Load nowhere
 lastOf (o ∷ os) = o
 
 -- the whole operations in the order of their access steps: at each access, the operation that its core was given last; and each poke
-abbrev pub accessed : Handed → Call → (ℕ → List Operation) → List Whole → List Whole
-accessed Nothing call given ws = ws
-accessed (One r) (give core operation) given ws = ws
-accessed (One r) (step core) given ws = does core (lastOf (given core)) ∷ ws
-accessed (One r) (poke a value) given ws = pokes a value ∷ ws
+abbrev pub atAccess : Handed → Whole → List Whole → List Whole
+atAccess Nothing w ws = ws
+atAccess (One r) w ws = w ∷ ws
+
+abbrev pub accessed : Call → Handed → (ℕ → List Operation) → List Whole → List Whole
+accessed (give core operation) made given ws = ws
+accessed (step core) made given ws = atAccess made (does core (lastOf (given core))) ws
+accessed (poke a value) made given ws = atAccess made (pokes a value) ws
 
 unfoldable pub inOrder : Outcome → List Call → List Whole
 inOrder fresh [] = []
-inOrder fresh (call ∷ calls) = accessed (act (after fresh calls) call .called .made) call (λ c. givenTo fresh c calls) (inOrder fresh calls)
+inOrder fresh (call ∷ calls) = accessed call (act (after fresh calls) call .called .made) (λ c. givenTo fresh c calls) (inOrder fresh calls)
 
 -- the entry rule of the machine's table
 abbrev pub entryRule : Outcome → GuestAddress → EntryNumber
