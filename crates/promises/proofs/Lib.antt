@@ -4,3 +4,4 @@ pub mod Conditional
 pub mod Agreeing
 pub mod Stood
 pub mod Tabled
+pub mod Archiving

@@ -8,32 +8,10 @@ use Rattle.machine.specs.Life.{microStep, loadStep, lockStep, markStep, accessS
 use Rattle.machine.specs.Ranges.{coreFits, inRanges, damaged}
 use Rattle.machine.specs.Calls.{startRefusal, startOf, giveRefusal, giveOf, stepRefusal, stepOf, stepped, microStepAt, wordRefusal, pokeOf}
 use Rattle.machine.specs.Runs.{act, after}
+use Rattle.archive.specs.Check.{fletcher}
 use Rattle.promises.specs.Table.{small, played, finals, wordAfter, SmallRuns}
 
 pub small-runs : SmallRuns
-unfolding small played finals wordAfter act after startOf startRefusal giveOf giveRefusal stepOf stepRefusal stepped microStepAt wordRefusal pokeOf inRanges coreFits damaged entriesFit entryOf readWord writeWord microStep loadStep lockStep markStep accessStep delivered
-small-runs = (
-  record { answers-hold = refl; word-holds = refl },
-  (
-    record { answers-hold = refl; word-holds = refl },
-    (
-      record { answers-hold = refl; word-holds = refl },
-      (
-        record { answers-hold = refl; word-holds = refl },
-        (
-          record { answers-hold = refl; word-holds = refl },
-          (
-            record { answers-hold = refl; word-holds = refl },
-            (
-              record { answers-hold = refl; word-holds = refl },
-              (
-                record { answers-hold = refl; word-holds = refl },
-                (record { answers-hold = refl; word-holds = refl }, tt),
-              ),
-            ),
-          ),
-        ),
-      ),
-    ),
-  ),
-)
+unfolding small played finals wordAfter act after startOf startRefusal giveOf giveRefusal stepOf stepRefusal stepped microStepAt wordRefusal pokeOf inRanges coreFits damaged entriesFit entryOf readWord writeWord microStep loadStep lockStep markStep accessStep delivered fletcher
+small-runs =
+    ((refl, refl), ((refl, refl), ((refl, refl), ((refl, refl), ((refl, refl), ((refl, refl), ((refl, refl), ((refl, refl), ((refl, refl), (refl, (refl, tt)))))))))))

@@ -10,6 +10,7 @@ use Rattle.machine.specs.Calls.{Outcome, startOf}
 use Rattle.machine.specs.Reference.{Whole, does, pokes}
 use Rattle.machine.specs.Runs.{Call, give, step, poke, act, after, finishes}
 use Rattle.machine.specs.declared.entry.GuestAddress.{GuestAddress}
+use Rattle.archive.specs.Check.{fletcher}
 use Rattle.machine.specs.declared.answers.Operation.{Operation}
 use Rattle.machine.specs.declared.answers.Operation.the-variants as Asked
 use Rattle.machine.specs.declared.answers.Answer.{Answer}
@@ -41,16 +42,14 @@ finals (call ∷ calls) = if finishes (act (after small calls) call .called .ans
 unfoldable pub wordAfter : List Call → ℕ → ℕ
 wordAfter calls a = readWord (after small calls .memory) (record { 0 = a })
 
--- a row: the run, the answers that it ends with, the latest first, and a word of memory at its end
-pub record Row : Type 0 where
-  pub run : List Whole
-  pub answers : List Answer
-  pub at : ℕ
-  pub word : ℕ
+-- a row: a run, the answers that it ends with, the latest first, and the word at an address at its end; or words and their two sums
+pub data Row : Type 0 where
+  plays : List Whole → List Answer → ℕ → ℕ → Row
+  sums : List ℕ → ℕ → ℕ → Row
 
-pub record Holds (row : Row) : Type 0 where
-  pub answers-hold : finals (played (row .run) []) ≡ row .answers
-  pub word-holds : wordAfter (played (row .run) []) (row .at) ≡ row .word
+abbrev pub Holds : Row → Type 0
+Holds (plays run answers at word) = (finals (played run []) ≡ answers) × (wordAfter (played run []) at ≡ word)
+Holds (sums words first second) = fletcher words ≡ record { first = first; second = second }
 
 abbrev ll : ℕ → ℕ → Whole
 ll c a = does c (Asked.Ll (record { 0 = a }))
@@ -76,23 +75,26 @@ failure = Answered.Sc 1
 abbrev pub rows : List Row
 rows =
     -- "P1: 0 ll 8, 0 sc 8 5: success; word 8 is 5."
-    record { run = ll 0 8 ∷ sc 0 8 5 ∷ []; answers = success ∷ linked ∷ []; at = 8; word = 5 }
+    plays (ll 0 8 ∷ sc 0 8 5 ∷ []) (success ∷ linked ∷ []) 8 5
     -- "P2: 0 ll 8, 1 store 8 7, 1 store 8 0, 0 sc 8 5: failure; word 8 is 0."
-    ∷ record { run = ll 0 8 ∷ store 1 8 7 ∷ store 1 8 0 ∷ sc 0 8 5 ∷ []; answers = failure ∷ stored ∷ stored ∷ linked ∷ []; at = 8; word = 0 }
+    ∷ plays (ll 0 8 ∷ store 1 8 7 ∷ store 1 8 0 ∷ sc 0 8 5 ∷ []) (failure ∷ stored ∷ stored ∷ linked ∷ []) 8 0
     -- "P3: 0 ll 8, 1 store 8 7, 0 store 24 9, 0 sc 8 5: failure."
-    ∷ record { run = ll 0 8 ∷ store 1 8 7 ∷ store 0 24 9 ∷ sc 0 8 5 ∷ []; answers = failure ∷ stored ∷ stored ∷ linked ∷ []; at = 8; word = 7 }
+    ∷ plays (ll 0 8 ∷ store 1 8 7 ∷ store 0 24 9 ∷ sc 0 8 5 ∷ []) (failure ∷ stored ∷ stored ∷ linked ∷ []) 8 7
     -- "P4: 0 ll 8, 1 ll 24, 0 sc 8 5: failure; then 1 sc 24 4: success."
-    ∷ record { run = ll 0 8 ∷ ll 1 24 ∷ sc 0 8 5 ∷ sc 1 24 4 ∷ []; answers = success ∷ failure ∷ linked ∷ linked ∷ []; at = 24; word = 4 }
+    ∷ plays (ll 0 8 ∷ ll 1 24 ∷ sc 0 8 5 ∷ sc 1 24 4 ∷ []) (success ∷ failure ∷ linked ∷ linked ∷ []) 24 4
     -- "P5: 0 ll 8, 0 store 8 3, 0 sc 8 5: success."
-    ∷ record { run = ll 0 8 ∷ store 0 8 3 ∷ sc 0 8 5 ∷ []; answers = success ∷ stored ∷ linked ∷ []; at = 8; word = 5 }
+    ∷ plays (ll 0 8 ∷ store 0 8 3 ∷ sc 0 8 5 ∷ []) (success ∷ stored ∷ linked ∷ []) 8 5
     -- "P6: 0 ll 8, 0 sc 12 5: failure; then 0 sc 8 5: failure."
-    ∷ record { run = ll 0 8 ∷ sc 0 12 5 ∷ sc 0 8 5 ∷ []; answers = failure ∷ failure ∷ linked ∷ []; at = 8; word = 0 }
+    ∷ plays (ll 0 8 ∷ sc 0 12 5 ∷ sc 0 8 5 ∷ []) (failure ∷ failure ∷ linked ∷ []) 8 0
     -- "P7: 0 ll 8, 1 store 12 1, 0 sc 8 5: success."
-    ∷ record { run = ll 0 8 ∷ store 1 12 1 ∷ sc 0 8 5 ∷ []; answers = success ∷ stored ∷ linked ∷ []; at = 8; word = 5 }
+    ∷ plays (ll 0 8 ∷ store 1 12 1 ∷ sc 0 8 5 ∷ []) (success ∷ stored ∷ linked ∷ []) 8 5
     -- "P8: 0 ll 8, 1 sc 24 4: failure; then 0 sc 8 5: success."
-    ∷ record { run = ll 0 8 ∷ sc 1 24 4 ∷ sc 0 8 5 ∷ []; answers = success ∷ failure ∷ linked ∷ []; at = 8; word = 5 }
+    ∷ plays (ll 0 8 ∷ sc 1 24 4 ∷ sc 0 8 5 ∷ []) (success ∷ failure ∷ linked ∷ []) 8 5
     -- "P9: 0 ll 8, poke 8 9, 0 sc 8 5: success; word 8 is 5."
-    ∷ record { run = ll 0 8 ∷ pokes (record { 0 = 8 }) 9 ∷ sc 0 8 5 ∷ []; answers = success ∷ linked ∷ []; at = 8; word = 5 }
+    ∷ plays (ll 0 8 ∷ pokes (record { 0 = 8 }) 9 ∷ sc 0 8 5 ∷ []) (success ∷ linked ∷ []) 8 5
+    -- "P10: words 1, 2 give sums 3 and 4; the word 65,535 gives 0 and 0."
+    ∷ sums (1 ∷ 2 ∷ []) 3 4
+    ∷ sums (65535 ∷ []) 0 0
     ∷ []
 
 -- each row holds
