@@ -27,7 +27,7 @@ use Rattle.machine.proofs.Accepted.{Fits, fits, Inside, core-fits}
 use Rattle.machine.proofs.Numbers.{of-both}
 
 -- an operation that occurs and is no load
-which : (operation : ℕ) → operationOccurs operation ≡ true → isLoad operation ≡ false → (operation ≡ 2) ⊎ ((operation ≡ 3) ⊎ (operation ≡ 4))
+pub which : (operation : ℕ) → operationOccurs operation ≡ true → isLoad operation ≡ false → (operation ≡ 2) ⊎ ((operation ≡ 3) ⊎ (operation ≡ 4))
 which operation h o = go (eqb operation 2) refl (eqb operation 3) refl
   where
     range : (1 ≤ operation) × (operation ≤ 4)
@@ -123,7 +123,7 @@ module _ {count bytes i : ℕ} (c : Core) (l : i < count) (f : Fits count bytes 
     sc-kept n k = onward (scAccess i c 0 0 .core) refl refl refl (has-step 4 refl refl o) (rw (b, k) (rw (b, k, n) at (f .value-fields))) (search (f .link-fields)) (search link-inside)
 
 -- by a choice's test, with what it says
-of-cases : {A : Type 0} (P : A → Type 0) (t : Bool) {a b : A} → (t ≡ true → P a) → (t ≡ false → P b) → P (if t then a else b)
+pub of-cases : {A : Type 0} (P : A → Type 0) (t : Bool) {a b : A} → (t ≡ true → P a) → (t ≡ false → P b) → P (if t then a else b)
 of-cases P true p q = p refl
 of-cases P false p q = q refl
 

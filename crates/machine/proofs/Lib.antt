@@ -4,6 +4,7 @@ pub mod Accepted
 pub mod Numbers
 pub mod Words
 pub mod Kept
+pub mod Kinded
 pub mod Lawful
 pub mod Determined
 pub mod Judging

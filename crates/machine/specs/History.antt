@@ -5,6 +5,7 @@ use Prim.Native.Nat.{ℕ}
 use lib.Dec.{eqb}
 use Rattle.machine.specs.Basics.{if_then_else_}
 use Rattle.machine.specs.Sizes.{written}
+use Rattle.machine.specs.Kinds.{linksKind, unlinksKind, spoilsKind}
 use Rattle.machine.specs.Life.{nowhere}
 use Rattle.machine.specs.declared.entry.GuestAddress.{GuestAddress}
 use Rattle.machine.specs.declared.entry.EntryNumber.{EntryNumber}
@@ -17,13 +18,13 @@ History = List Record
 
 -- an ll and an sc by this core; an access by another that ends links at its entry
 abbrev pub ownLl : ℕ → Record → Bool
-ownLl c r = eqb (r .core) c && eqb (r .kind) 2
+ownLl c r = eqb (r .core) c && linksKind (r .kind)
 
 abbrev pub ownSc : ℕ → Record → Bool
-ownSc c r = eqb (r .core) c && (eqb (r .kind) 4 || eqb (r .kind) 5)
+ownSc c r = eqb (r .core) c && unlinksKind (r .kind)
 
 abbrev pub spoils : (GuestAddress → EntryNumber) → ℕ → GuestAddress → Record → Bool
-spoils entry c a r = not (eqb (r .core) c) && (eqb (r .kind) 2 || (eqb (r .kind) 3 || eqb (r .kind) 4)) && eqb (entry (r .address) .0) (entry a .0)
+spoils entry c a r = not (eqb (r .core) c) && spoilsKind (r .kind) && eqb (entry (r .address) .0) (entry a .0)
 
 unfoldable pub succeeds : (GuestAddress → EntryNumber) → ℕ → GuestAddress → History → Bool
 succeeds entry c a [] = false

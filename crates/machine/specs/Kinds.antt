@@ -51,6 +51,15 @@ pokeKind = 6
 abbrev pub pokeCore : ℕ
 pokeCore = 255
 
--- the kinds whose access writes its value into memory
+-- which kinds write their value into memory; which set their core's link, and which end it; and which end other cores' links at their entry
 abbrev pub writesKind : ℕ → Bool
-writesKind kind = eqb kind 3 || eqb kind 4 || eqb kind 6
+writesKind kind = eqb kind 3 || (eqb kind 4 || eqb kind 6)
+
+abbrev pub linksKind : ℕ → Bool
+linksKind kind = eqb kind 2
+
+abbrev pub unlinksKind : ℕ → Bool
+unlinksKind kind = eqb kind 4 || eqb kind 5
+
+abbrev pub spoilsKind : ℕ → Bool
+spoilsKind kind = eqb kind 2 || (eqb kind 3 || eqb kind 4)

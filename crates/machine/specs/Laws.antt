@@ -1,18 +1,22 @@
 -- What holds of the rules of this crate, beside each call's own contract. The proofs are in proofs/Lawful.antt.
 use mathlib.Core.Path.{_≡_}
-use mathlib.Core.Bool.{true}
+use mathlib.Core.Bool.{Bool, true, false}
 use mathlib.Core.List.{List, []}
 use Prim.Native.Nat.{ℕ, _+_, _/_, _%_, _^_, _≤_, _<_}
 use lib.ListN.{length, getD, replicate}
+use Rattle.machine.specs.Basics.{if_then_else_}
 use Rattle.machine.specs.Sizes.{entriesFit}
-use Rattle.machine.specs.Life.{idle}
-use Rattle.machine.specs.Ranges.{inRanges}
+use Rattle.machine.specs.Kinds.{writesKind, linksKind, unlinksKind}
+use Rattle.machine.specs.Life.{nowhere, idle, microStep}
+use Rattle.machine.specs.Ranges.{operationOccurs, inRanges}
 use Rattle.machine.specs.Answers.{numberOf, valuesOf}
 use Rattle.machine.specs.Calls.{Outcome, outcome, allIdle, lentFits, startOf, giveOf, stepOf, pokeOf, showOf}
 use Rattle.machine.specs.declared.entry.GuestAddress.{GuestAddress}
 use Rattle.machine.specs.declared.entry.EntryNumber.{EntryNumber}
 use Rattle.machine.specs.declared.answers.Operation.{Operation}
-use Rattle.machine.specs.declared.answers.Handed.the-variants.{Nothing}
+use Rattle.machine.specs.declared.answers.Handed.{Handed}
+use Rattle.machine.specs.declared.answers.Handed.the-variants.{Nothing, One}
+use Rattle.machine.specs.declared.cores.Core.{Core}
 use Rattle.machine.specs.declared.state.Machine.{Machine}
 use Rattle.machine.specs.declared.state.Called.{Called}
 
@@ -32,6 +36,25 @@ pub record WordLaws (read : List ℕ → GuestAddress → ℕ) (write : List ℕ
   pub length-stays : (memory : List ℕ) (a : GuestAddress) (value : ℕ) → length (write memory a value) ≡ length memory
   pub a-word : (memory : List ℕ) (a : GuestAddress) → Bytes memory → read memory a < 2 ^ 32
   pub bytes-stay : (memory : List ℕ) (a : GuestAddress) (value : ℕ) → Bytes memory → Bytes (write memory a value)
+
+-- what the kinds say of a record handed out: whether it writes, and the link it leaves its core with
+abbrev pub writesMade : Handed → Bool
+writesMade Nothing = false
+writesMade (One r) = writesKind (r .kind)
+
+abbrev pub linkedMade : Handed → Core → Bool
+linkedMade Nothing c = c .linked
+linkedMade (One r) c = if linksKind (r .kind) then true else if unlinksKind (r .kind) then false else c .linked
+
+abbrev pub linkMade : Handed → Core → GuestAddress
+linkMade Nothing c = c .link
+linkMade (One r) c = if linksKind (r .kind) then r .address else if unlinksKind (r .kind) then nowhere else c .link
+
+-- A micro-step of an operation that can occur writes, links and ends its own link exactly as the kind of its record says.
+pub record KindLaws : Type 0 where
+  pub writes-by-kind : (me : ℕ) (c : Core) (owner holder word : ℕ) → operationOccurs (c .operation) ≡ true → microStep me c owner holder word .writes ≡ writesMade (microStep me c owner holder word .made)
+  pub linked-by-kind : (me : ℕ) (c : Core) (owner holder word : ℕ) → operationOccurs (c .operation) ≡ true → microStep me c owner holder word .core .linked ≡ linkedMade (microStep me c owner holder word .made) c
+  pub link-by-kind : (me : ℕ) (c : Core) (owner holder word : ℕ) → operationOccurs (c .operation) ≡ true → microStep me c owner holder word .core .link ≡ linkMade (microStep me c owner holder word .made) c
 
 -- What a refusal leaves: machine, memory, owners and holders as found, no record, and no value but its number.
 pub record AsFound (o : Outcome) (m : Machine) (memory owners holders : List ℕ) : Type 0 where
