@@ -1,12 +1,12 @@
 -- Every call of a run keeps the invariant, and a fresh machine has it: so it holds after every list of calls.
 -- Assumes nothing.
 use mathlib.Core.Path.{_≡_, refl, sym, ap, subst, _∙_}
-use mathlib.Core.Logic.{_⊎_, inl, inr, ⊎-elim}
-use mathlib.Core.Bool.{Bool, true, false, not, _&&_, _||_, true≢false, false≢true}
+use mathlib.Core.Logic.{inl, inr}
+use mathlib.Core.Bool.{Bool, true, false, true≢false}
 use mathlib.Core.List.{List, [], _∷_}
-use Prim.Native.Nat.{ℕ, zero, suc, _+_, _≤_, _<_}
+use Prim.Native.Nat.{ℕ, zero, suc, _<_}
 use native.Mathlib.Omega.{arith}
-use lib.ListN.{length, getD, set, replicate, length-replicate}
+use lib.ListN.{length, getD, set, replicate}
 use lib.Seq.{set-getD}
 use lib.Dec.{eqb}
 use borrow.Author.Tests.{eqb-true, eqb-false, eq-eqb, ne-eqb}
@@ -17,9 +17,9 @@ use Rattle.machine.specs.Word.{readWord, writeWord}
 use Rattle.machine.specs.Life.{idle, given, microStep, moves}
 use Rattle.machine.specs.Ranges.{coreAt}
 use Rattle.machine.specs.Answers.{numberOf}
-use Rattle.machine.specs.Calls.{Outcome, outcome, refused, answered, allIdle, started, withCore, lentFits, entryAt, markAt, startRefusal, startOf, giveRefusal, giveOf, stepRefusal, stepOf, stepped, microStepAt, wordRefusal, pokeOf}
+use Rattle.machine.specs.Calls.{Outcome, outcome, refused, answered, started, withCore, startRefusal, startOf, giveRefusal, giveOf, stepRefusal, stepOf, stepped, microStepAt, wordRefusal, pokeOf}
 use Rattle.machine.specs.Laws.{Sound, AsFound}
-use Rattle.machine.specs.History.{History, Link, linkOf, ownerOf}
+use Rattle.machine.specs.History.{History, linkOf, ownerOf}
 use Rattle.machine.specs.Kinds.{pokeCore, pokeKind}
 use Rattle.machine.specs.Reference.{Whole, accessOf, refer, operationsOf, answersOf}
 use Rattle.machine.specs.Runs.{Call, step, give, poke, act, Fresh, after, records, givenTo, deliveredTo, inOrder, taken, delivers}
@@ -32,11 +32,11 @@ use Rattle.machine.specs.declared.answers.Handed.the-variants.{Nothing, 
 use Rattle.machine.specs.declared.cores.Core.{Core}
 use Rattle.machine.specs.declared.cores.MicroStep.{MicroStep}
 use Rattle.machine.specs.declared.state.Machine.{Machine}
-use Rattle.machine.proofs.Accepted.{core-small, sizes-fit, lent, entry-below, start-accepted, GiveAccepted, give-accepted, StepAccepted, step-accepted}
+use Rattle.machine.proofs.Accepted.{core-small, sizes-fit, entry-below, start-accepted, give-accepted, StepAccepted, step-accepted}
 use Rattle.machine.proofs.Kept.{idle-anywhere}
 use Rattle.machine.proofs.Lawful.{refusal-laws, range-laws, started-sound}
 use Rattle.machine.proofs.Judging.{and-no}
-use Rattle.machine.proofs.Phases.{Locked, operationOf, placeOf, Phase, rests, loads, asks, holds, reaches, leaves, picture, load-step, ask-step, hold-step, reach-step, leave-step}
+use Rattle.machine.proofs.Phases.{Locked, placeOf, Phase, rests, loads, asks, holds, reaches, leaves, picture, load-step, ask-step, hold-step, reach-step, leave-step}
 use Rattle.machine.proofs.Running.{CoreOk, Inv, Next, no-mark}
 use Rattle.machine.proofs.Transitions.{carried, given-next, poked-next, loaded-next, lock-next, mark-next, access-next, leave-next, judged-right}
 

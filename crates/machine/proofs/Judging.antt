@@ -1,20 +1,18 @@
 -- A store-conditional succeeds exactly if its core's link is its address and the owner of its entry is its core: the key of the run. The entry rule is any.
 -- Assumes nothing.
 use mathlib.Core.Path.{_≡_, refl, sym, ap, _∙_}
-use mathlib.Core.Logic.{_⊎_, inl, inr}
-use mathlib.Core.Bool.{Bool, true, false, not, _&&_, _||_, true≢false, false≢true}
-use mathlib.Core.List.{List, [], _∷_, _++_}
-use Prim.Native.Nat.{ℕ, _+_}
+use mathlib.Core.Bool.{Bool, true, false, not, _&&_, _||_}
+use mathlib.Core.List.{[], _∷_}
+use Prim.Native.Nat.{ℕ}
 use native.Mathlib.Omega.{arith}
 use lib.Dec.{eqb}
 use borrow.Author.Tests.{eqb-true, eqb-false, eq-eqb, ne-eqb}
 use Rattle.machine.specs.Basics.{if_then_else_}
 use Rattle.machine.specs.Sizes.{written}
-use Rattle.machine.specs.History.{History, ownLl, ownSc, spoils, succeeds, Link, noLink, linkOf, ownerAfter, ownerOf}
+use Rattle.machine.specs.History.{History, succeeds, Link, noLink, linkOf, ownerAfter, ownerOf}
 use Rattle.machine.specs.declared.entry.GuestAddress.{GuestAddress}
 use Rattle.machine.specs.declared.entry.EntryNumber.{EntryNumber}
 use Rattle.machine.specs.declared.answers.Record.{Record}
-use Rattle.machine.proofs.Bools.{and₂, and₃, or-true}
 
 pub and-no : (t : Bool) → t && false ≡ false
 and-no true = refl

@@ -1,22 +1,21 @@
 -- A core that fits still fits after it is given an operation and after each of its micro-steps, and so does the machine that holds it.
 -- Assumes nothing.
-use mathlib.Core.Path.{_≡_, refl, sym, ap, _∙_}
-use mathlib.Core.Bool.{Bool, true, false, not, _&&_, _||_}
+use mathlib.Core.Path.{_≡_, refl, ap, _∙_}
+use mathlib.Core.Bool.{Bool, true, false, not, _||_}
 use mathlib.Core.List.{List}
 use mathlib.Core.Logic.{⊎-elim, inl, inr, _⊎_}
-use Prim.Native.Nat.{ℕ, zero, suc, _%_, _≤_, _<_}
+use Prim.Native.Nat.{ℕ, zero, suc, _≤_, _<_}
 use native.Mathlib.Omega.{arith}
 use lib.ListN.{length, getD, set, replicate}
 use lib.Seq.{getD-set-same, getD-set-other, set-out}
 use lib.Dec.{leb, ltb, eqb}
 use borrow.Author.Tests.{ltb-true, ltb-false, leb-true, eqb-true, eqb-false, eq-eqb, lt-ltb}
 use Rattle.machine.specs.Basics.{if_then_else_, allBelow}
-use Rattle.machine.specs.Kinds.{isLoad, isLl, isStore, codeOf, addressOf, valueOf}
-use Rattle.machine.specs.Life.{nowhere, resting, idle, given, advanced, judged, passes, microStep, loadStep, lockStep, markStep, accessStep, llAccess, storeAccess, scAccess}
-use Rattle.machine.specs.Ranges.{operationFields, valueFields, linkFields, operationOccurs, stepOccurs, operationFits, inside, addressesFit, placeFits, coreFits, coreAt, everyCoreFits, sizesFit, inRanges}
+use Rattle.machine.specs.Kinds.{isLoad, isLl, isStore, addressOf}
+use Rattle.machine.specs.Life.{resting, idle, given, advanced, judged, passes, microStep, loadStep, lockStep, markStep, accessStep, llAccess, scAccess}
+use Rattle.machine.specs.Ranges.{valueFields, linkFields, operationOccurs, stepOccurs, operationFits, inside, placeFits, coreFits, coreAt, everyCoreFits, sizesFit, inRanges}
 use Rattle.machine.specs.Calls.{allIdle, withCore}
 use Rattle.machine.specs.Sizes.{coresFit, bytesFit, entriesFit}
-use Rattle.machine.specs.declared.entry.GuestAddress.{GuestAddress}
 use Rattle.machine.specs.declared.answers.Operation.{Operation}
 use Rattle.machine.specs.declared.answers.Operation.the-variants.{Load, Ll, Store, Sc}
 use Rattle.machine.specs.declared.cores.Core.{Core}

@@ -7,7 +7,7 @@ use Prim.Native.Nat.{ℕ}
 use lib.Dec.{eqb}
 use borrow.Author.Tests.{eqb-true, eqb-false}
 use Rattle.machine.specs.Basics.{if_then_else_}
-use Rattle.machine.specs.Kinds.{isLoad, isLl, isStore, writesKind, linksKind, unlinksKind, kindOf}
+use Rattle.machine.specs.Kinds.{isLoad, isLl, isStore, writesKind, linksKind, unlinksKind}
 use Rattle.machine.specs.Life.{nowhere, llAccess, storeAccess, scAccess, microStep, loadStep, lockStep, markStep, accessStep}
 use Rattle.machine.specs.Ranges.{operationOccurs}
 use Rattle.machine.specs.Laws.{writesMade, linkedMade, linkMade, KindLaws}

@@ -1,18 +1,17 @@
 -- The laws of specs/Laws.antt, proved.
 -- Assumes nothing.
 use mathlib.Core.Path.{_≡_, refl, sym, ap, _∙_}
-use mathlib.Core.Bool.{Bool, true, false, _&&_}
+use mathlib.Core.Bool.{Bool, true, false}
 use mathlib.Core.List.{List}
 use Prim.Native.Nat.{ℕ, _%_}
-use lib.ListN.{length, set, replicate, length-set, length-replicate}
-use lib.Dec.{eqb, leb}
+use lib.ListN.{length, replicate, length-set, length-replicate}
+use lib.Dec.{eqb}
 use borrow.Author.Tests.{eqb-true, eqb-false, eq-eqb}
 use Rattle.machine.specs.Basics.{if_then_else_}
-use Rattle.machine.specs.Sizes.{coresFit, bytesFit, entriesFit, tablesFit}
 use Rattle.machine.specs.Entry.{entryOf}
 use Rattle.machine.specs.Word.{readWord, writeWord}
 use Rattle.machine.specs.Life.{idle, given}
-use Rattle.machine.specs.Ranges.{coreAt, inRanges}
+use Rattle.machine.specs.Ranges.{coreAt}
 use Rattle.machine.specs.Answers.{numberOf}
 use Rattle.machine.specs.Calls.{Outcome, outcome, PokeOutcome, pokeOutcome, refused, answered, unlessRefused, allIdle, lentFits, entryAt, markAt, started, taken, stepped, microStepAt, poked, startRefusal, giveRefusal, stepRefusal, wordRefusal, startOf, giveOf, stepOf, pokeOf, showOf}
 use Rattle.machine.specs.Laws.{EntryLaws, AsFound, RefusalLaws, Sound, RangeLaws, OneOutcome}
@@ -20,10 +19,8 @@ use Rattle.machine.specs.declared.entry.GuestAddress.{GuestAddress}
 use Rattle.machine.specs.declared.answers.Operation.{Operation}
 use Rattle.machine.specs.declared.answers.Answer.{Answer}
 use Rattle.machine.specs.declared.answers.Answer.the-variants.{Word}
-use Rattle.machine.specs.declared.cores.MicroStep.{MicroStep}
 use Rattle.machine.specs.declared.state.Machine.{Machine}
 use Rattle.machine.specs.declared.state.Called.{Called}
-use Rattle.machine.proofs.Bools.{and₂, passed-over}
 use Rattle.machine.proofs.Accepted.{entry-below, core-small, core-fits, lent, StartAccepted, start-accepted, GiveAccepted, give-accepted, StepAccepted, step-accepted, WordAccepted, word-accepted}
 use Rattle.machine.proofs.Numbers.{micro-number, of-both}
 use Rattle.machine.proofs.Words.{word-laws}

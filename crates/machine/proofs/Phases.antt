@@ -1,7 +1,7 @@
 -- A core of a run is the picture of a phase: which operation it is at, at which step, and its link. What each micro-step makes of a picture, by cases.
 -- Assumes nothing.
 use mathlib.Core.Path.{_≡_, refl}
-use mathlib.Core.Bool.{Bool, true, false, _&&_}
+use mathlib.Core.Bool.{Bool, true, false}
 use Prim.Native.Nat.{ℕ}
 use lib.Dec.{eqb}
 use Rattle.machine.specs.Basics.{if_then_else_}
@@ -16,7 +16,6 @@ use Rattle.machine.specs.declared.answers.Answer.{Answer}
 use Rattle.machine.specs.declared.answers.Answer.the-variants as Answered
 use Rattle.machine.specs.declared.answers.Handed.the-variants.{Nothing, One}
 use Rattle.machine.specs.declared.cores.Core.{Core}
-use Rattle.machine.specs.declared.cores.MicroStep.{MicroStep}
 
 -- the operations that take the lock
 pub data Locked : Type 0 where

@@ -2,36 +2,28 @@
 -- The entry rule, and reading and writing a word, are never looked into here.
 -- Assumes nothing.
 use mathlib.Core.Path.{_≡_, refl, sym, ap, subst, _∙_}
-use mathlib.Core.Logic.{_⊎_, inl, inr, ⊎-elim}
-use mathlib.Core.Bool.{Bool, true, false, not, _&&_, _||_, true≢false, false≢true}
-use mathlib.Core.List.{List, [], _∷_}
-use Prim.Native.Nat.{ℕ, zero, suc, _+_, _≤_, _<_}
+use mathlib.Core.Bool.{Bool, true, false}
+use mathlib.Core.List.{List, _∷_}
+use Prim.Native.Nat.{ℕ, _≤_, _<_}
 use native.Mathlib.Omega.{arith}
-use lib.ListN.{length, getD, set, replicate, length-set}
-use lib.Seq.{getD-set-same, getD-set-other, set-getD, set-out}
-use lib.Dec.{eqb, leb, ltb}
-use borrow.Author.Tests.{eqb-true, eqb-false, eq-eqb, ne-eqb, ltb-true, ltb-false, le-ltb}
+use lib.ListN.{length, getD}
+use lib.Dec.{eqb}
+use borrow.Author.Tests.{eqb-true, eqb-false}
 use Rattle.machine.specs.Basics.{if_then_else_}
 use Rattle.machine.specs.Sizes.{written}
 use Rattle.machine.specs.Entry.{entryOf}
-use Rattle.machine.specs.Word.{readWord, writeWord}
-use Rattle.machine.specs.Life.{idle, microStep}
-use Rattle.machine.specs.Ranges.{coreAt, inRanges, damaged}
-use Rattle.machine.specs.Calls.{Outcome, outcome, withCore, lentFits, entryAt, markAt, stepRefusal, stepOf, stepped, microStepAt}
+use Rattle.machine.specs.Ranges.{coreAt}
+use Rattle.machine.specs.Calls.{Outcome}
 use Rattle.machine.specs.Laws.{Sound}
-use Rattle.machine.specs.History.{History, Link, linkOf, ownerOf, ownerAfter}
-use Rattle.machine.specs.Reference.{Whole, does, pokes, Reference, refer, finish, operationsOf, answersOf}
-use Rattle.machine.specs.Runs.{Call, step, give, poke, act, handed, accessed, taken, delivers}
+use Rattle.machine.specs.History.{History, Link, linkOf, ownerOf}
+use Rattle.machine.specs.Reference.{Whole, refer, operationsOf, answersOf}
+use Rattle.machine.specs.Runs.{Call, handed, accessed, taken, delivers}
 use Rattle.machine.specs.declared.entry.GuestAddress.{GuestAddress}
 use Rattle.machine.specs.declared.entry.EntryNumber.{EntryNumber}
 use Rattle.machine.specs.declared.answers.Operation.{Operation}
 use Rattle.machine.specs.declared.answers.Operation.the-variants as Asked
 use Rattle.machine.specs.declared.answers.Answer.{Answer}
-use Rattle.machine.specs.declared.answers.Record.{Record}
-use Rattle.machine.specs.declared.cores.Core.{Core}
-use Rattle.machine.specs.declared.cores.MicroStep.{MicroStep}
-use Rattle.machine.specs.declared.state.Machine.{Machine}
-use Rattle.machine.proofs.Phases.{Locked, ll, store, sc, operationOf, placeOf, Phase, rests, loads, asks, holds, reaches, leaves, picture, marked, tested, kindAt, valueAt, linkAt, ownerAt, readAt, writesAt, answerAt}
+use Rattle.machine.proofs.Phases.{operationOf, placeOf, Phase, rests, loads, asks, holds, reaches, leaves, picture, marked, tested, answerAt}
 
 -- inside an entry, between taking its lock and giving it back
 abbrev pub insideAt : (GuestAddress → EntryNumber) → ℕ → Phase → Type 0

@@ -2,26 +2,26 @@
 -- Assumes nothing.
 use mathlib.Core.Path.{_≡_, refl, sym, ap, subst, _∙_}
 use mathlib.Core.Logic.{_⊎_, inl, inr, ⊎-elim}
-use mathlib.Core.Bool.{Bool, true, false, not, _&&_, _||_, true≢false, false≢true}
-use mathlib.Core.List.{List, [], _∷_}
-use Prim.Native.Nat.{ℕ, zero, suc, _+_, _≤_, _<_}
+use mathlib.Core.Bool.{Bool, true, false, true≢false}
+use mathlib.Core.List.{List, _∷_}
+use Prim.Native.Nat.{ℕ, _≤_, _<_}
 use native.Mathlib.Omega.{arith}
-use lib.ListN.{length, getD, set, replicate, length-set}
+use lib.ListN.{length, getD, set, length-set}
 use lib.Seq.{getD-set-same, getD-set-other, set-getD}
-use lib.Dec.{eqb, leb, ltb}
+use lib.Dec.{eqb}
 use borrow.Author.Tests.{eqb-true, eqb-false, eq-eqb, ne-eqb}
 use Rattle.machine.specs.Basics.{if_then_else_}
 use Rattle.machine.specs.Sizes.{written}
 use Rattle.machine.specs.Entry.{entryOf}
 use Rattle.machine.specs.Word.{readWord, writeWord}
 use Rattle.machine.specs.Kinds.{valueOf, pokeCore, pokeKind}
-use Rattle.machine.specs.Life.{idle, given, microStep, moves}
+use Rattle.machine.specs.Life.{idle, given}
 use Rattle.machine.specs.Ranges.{coreAt}
-use Rattle.machine.specs.Calls.{Outcome, outcome, answered, withCore, stepRefusal, stepOf, stepped, microStepAt}
+use Rattle.machine.specs.Calls.{Outcome, outcome, answered, withCore}
 use Rattle.machine.specs.Laws.{Sound}
 use Rattle.machine.specs.History.{History, Link, linkOf, ownerOf, ownerAfter, succeeds}
 use Rattle.machine.specs.Reference.{Whole, does, pokes, Reference, Finished, refer, finish, operationsOf, answersOf, accessOf}
-use Rattle.machine.specs.Runs.{Call, step, give, poke, act, handed, accessed, taken, delivers, finishes, lastOf}
+use Rattle.machine.specs.Runs.{step, give, poke, taken, delivers, finishes, lastOf}
 use Rattle.machine.specs.declared.entry.GuestAddress.{GuestAddress}
 use Rattle.machine.specs.declared.entry.EntryNumber.{EntryNumber}
 use Rattle.machine.specs.declared.answers.Operation.{Operation}
@@ -32,14 +32,11 @@ use Rattle.machine.specs.declared.answers.Handed.{Handed}
 use Rattle.machine.specs.declared.answers.Handed.the-variants.{Nothing, One}
 use Rattle.machine.specs.declared.answers.Record.{Record}
 use Rattle.machine.specs.declared.cores.Core.{Core}
-use Rattle.machine.specs.declared.cores.MicroStep.{MicroStep}
-use Rattle.machine.specs.declared.state.Machine.{Machine}
-use Rattle.machine.specs.declared.state.Called.{Called}
 use Rattle.machine.proofs.Numbers.{of-both}
 use Rattle.machine.proofs.Kept.{set-or-old}
 use Rattle.machine.proofs.Judging.{link-other, link-quiet, link-ll, link-sc, owner-elsewhere, owner-here, owner-quiet, link-and-owner}
-use Rattle.machine.proofs.Phases.{Locked, ll, store, sc, operationOf, placeOf, Phase, rests, loads, asks, holds, reaches, leaves, picture, marked, tested, kindAt, valueAt, linkAt, ownerAt, readAt, writesAt, answerAt, load-step, ask-step, hold-step, reach-step, leave-step}
-use Rattle.machine.proofs.Running.{insideAt, TableOk, ListsOk, CoreOk, Inv, Next, renew, at-renewed, marks-differ, no-mark, Untouched, untouched}
+use Rattle.machine.proofs.Phases.{Locked, ll, store, sc, operationOf, placeOf, Phase, rests, loads, asks, holds, reaches, leaves, picture, marked, tested, kindAt, valueAt, linkAt, ownerAt, readAt, writesAt, answerAt}
+use Rattle.machine.proofs.Running.{TableOk, ListsOk, CoreOk, Inv, Next, renew, at-renewed, marks-differ, no-mark, Untouched, untouched}
 
 -- the lists of a core, and of another, after one whole operation more
 module _ (entry : GuestAddress → EntryNumber) (zeros : List ℕ) (c : ℕ) (o : Operation) (ws : List Whole) where

@@ -1,11 +1,11 @@
 -- The laws of a word of memory, once over the width.
 -- Assumes nothing.
-use mathlib.Core.Path.{_≡_, refl, sym, ap, ap₂, _∙_}
+use mathlib.Core.Path.{_≡_, refl, ap₂, _∙_}
 use mathlib.Core.Logic.{_≢_}
 use mathlib.Core.Bool.{Bool, true, false}
 use mathlib.Core.List.{List}
 use Prim.Native.Nat.{ℕ, zero, suc, _+_, _*_, _/_, _%_, _^_, _≤_, _<_}
-use native.Mathlib.Nat.{mod-lt, pow-succ'}
+use native.Mathlib.Nat.{pow-succ'}
 use native.Mathlib.Omega.{arith}
 use lib.ListN.{length, getD, set, length-set}
 use lib.Seq.{getD-set-same, getD-set-other, set-out}
@@ -13,7 +13,6 @@ use lib.Dec.{eqb, ltb}
 use borrow.Author.Tests.{eqb-true, eqb-false, ltb-true, ltb-false}
 use Rattle.machine.specs.Word.{readBytes, writeBytes, readWord, writeWord}
 use Rattle.machine.specs.Laws.{Bytes, WordLaws}
-use Rattle.machine.specs.declared.entry.GuestAddress.{GuestAddress}
 
 pub length-written : (w : ℕ) (memory : List ℕ) (at v : ℕ) → length (writeBytes w memory at v) ≡ length memory
 length-written zero memory at v = refl

@@ -16,7 +16,6 @@ use Rattle.machine.specs.declared.entry.EntryNumber.{EntryNumber}
 use Rattle.machine.specs.declared.answers.Operation.{Operation}
 use Rattle.machine.specs.declared.answers.Answer.{Answer}
 use Rattle.machine.specs.declared.answers.Answer.the-variants.{Refused, Ready, Taken, Poked, Word}
-use Rattle.machine.specs.declared.answers.Handed.{Handed}
 use Rattle.machine.specs.declared.answers.Handed.the-variants.{Nothing, One}
 use Rattle.machine.specs.declared.cores.Core.{Core}
 use Rattle.machine.specs.declared.cores.MicroStep.{MicroStep}

@@ -1,5 +1,5 @@
 -- What the history of access steps says: whether a store-conditional succeeds, and the links and owner marks it makes. A history is the records handed out, the latest first; `entry` is the entry rule.
-use mathlib.Core.Bool.{Bool, true, false, not, _&&_, _||_}
+use mathlib.Core.Bool.{Bool, true, false, not, _&&_}
 use mathlib.Core.List.{List, [], _∷_}
 use Prim.Native.Nat.{ℕ}
 use lib.Dec.{eqb}

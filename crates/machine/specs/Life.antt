@@ -4,13 +4,12 @@ use mathlib.Core.Bool.{Bool, true, false, _&&_}
 use lib.Dec.{eqb}
 use Rattle.machine.specs.Basics.{if_then_else_}
 use Rattle.machine.specs.Sizes.{written}
-use Rattle.machine.specs.Kinds.{isLoad, isLl, isStore, codeOf, addressOf, valueOf, kindOf, writesKind}
+use Rattle.machine.specs.Kinds.{isLoad, isLl, isStore, codeOf, addressOf, valueOf, kindOf}
 use Rattle.machine.specs.declared.entry.GuestAddress.{GuestAddress}
 use Rattle.machine.specs.declared.answers.Operation.{Operation}
 use Rattle.machine.specs.declared.answers.Answer.{Answer}
 use Rattle.machine.specs.declared.answers.Answer.the-variants.{Moved, Waits, Load, Ll, Store, Sc}
 use Rattle.machine.specs.declared.answers.Record.{Record}
-use Rattle.machine.specs.declared.answers.Handed.{Handed}
 use Rattle.machine.specs.declared.answers.Handed.the-variants.{Nothing, One}
 use Rattle.machine.specs.declared.cores.Core.{Core}
 use Rattle.machine.specs.declared.cores.MicroStep.{MicroStep}

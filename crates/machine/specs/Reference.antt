@@ -1,5 +1,4 @@
 -- The reference machine: it has neither table nor locks, runs whole operations one after another, and judges each store-conditional by the written rule from the history of finished accesses alone.
-use mathlib.Core.Bool.{Bool}
 use mathlib.Core.List.{List, [], _∷_}
 use Prim.Native.Nat.{ℕ}
 use lib.Dec.{eqb}

@@ -1,18 +1,14 @@
 -- Demand 3, from the invariant of a run.
 -- Assumes nothing.
-use mathlib.Core.Path.{_≡_, refl}
-use mathlib.Core.Logic.{_⊎_, inl, inr}
-use mathlib.Core.List.{List, _∷_}
-use Prim.Native.Nat.{ℕ}
-use Rattle.machine.specs.Calls.{Outcome}
-use Rattle.machine.specs.Runs.{Call, Fresh, after, records, givenTo, deliveredTo, inOrder}
+use mathlib.Core.Logic.{inl, inr}
+use mathlib.Core.List.{List}
 use Rattle.machine.specs.declared.answers.Operation.{Operation}
 use Rattle.machine.specs.declared.answers.Operation.the-variants as Asked
 use Rattle.machine.specs.declared.answers.Answer.{Answer}
 use Rattle.machine.proofs.Phases.{Phase, rests, loads, asks, holds, reaches, leaves, operationOf, answerAt}
-use Rattle.machine.proofs.Running.{ListsOk, Inv}
+use Rattle.machine.proofs.Running.{ListsOk}
 use Rattle.machine.proofs.Invariant.{run-inv}
-use Rattle.promises.specs.Demand3.{AtMostOneMore, Agrees, Demand3}
+use Rattle.promises.specs.Demand3.{AtMostOneMore, Demand3}
 
 answers : (p : Phase) (gs os : List Operation) (ds ans : List Answer) → ListsOk p gs ds os ans → AtMostOneMore ans ds
 answers rests gs os ds ans t = inl (t .1)

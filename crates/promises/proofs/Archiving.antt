@@ -2,37 +2,34 @@
 -- Assumes nothing.
 use mathlib.Core.Path.{_≡_, refl, sym, ap, subst, _∙_}
 use mathlib.Core.Bool.{Bool, true, false, _&&_}
-use mathlib.Core.List.{List, [], _∷_, _++_, reverse, reverseAux}
-use Prim.Native.Nat.{ℕ, zero, suc, _+_, _%_, _^_, _≤_, _<_}
+use mathlib.Core.List.{List, [], _∷_, reverse, reverseAux}
+use Prim.Native.Nat.{ℕ, zero, suc, _^_, _≤_, _<_}
 use native.Mathlib.Omega.{arith}
-use lib.ListN.{length, getD, replicate, length-reverse}
-use lib.Dec.{eqb, leb, ltb}
+use lib.ListN.{length, replicate, length-reverse}
+use lib.Dec.{eqb, leb}
 use borrow.Author.Tests.{eqb-true, eqb-false, eq-eqb, le-leb, lt-ltb}
 use Rattle.machine.specs.Basics.{if_then_else_}
-use Rattle.machine.specs.Word.{readWord, writeWord}
+use Rattle.machine.specs.Word.{readWord}
 use Rattle.machine.specs.Kinds.{addressOf, valueOf, pokeCore, pokeKind}
 use Rattle.machine.specs.Answers.{numberOf}
-use Rattle.machine.specs.Calls.{Outcome, outcome, giveRefusal, giveOf, stepRefusal, stepOf, wordRefusal, pokeOf}
+use Rattle.machine.specs.Calls.{Outcome}
 use Rattle.machine.specs.Laws.{Bytes}
 use Rattle.machine.specs.History.{History, succeeds}
 use Rattle.machine.specs.Reference.{Whole, does, pokes, Reference, refer, finish, scDone, scFailed}
-use Rattle.machine.specs.Runs.{Call, give, step, poke, Fresh, act, after, records, taken, givenTo, lastOf, atAccess, accessed, inOrder, entryRule}
+use Rattle.machine.specs.Runs.{Call, give, step, poke, Fresh, act, after, records, givenTo, lastOf, atAccess, inOrder, entryRule}
 use Rattle.machine.specs.declared.entry.GuestAddress.{GuestAddress}
 use Rattle.machine.specs.declared.entry.EntryNumber.{EntryNumber}
 use Rattle.machine.specs.declared.answers.Operation.{Operation}
 use Rattle.machine.specs.declared.answers.Operation.the-variants as Asked
-use Rattle.machine.specs.declared.answers.Answer.{Answer}
 use Rattle.machine.specs.declared.answers.Handed.{Handed}
 use Rattle.machine.specs.declared.answers.Handed.the-variants.{Nothing, One}
-use Rattle.machine.specs.declared.answers.Record.{Record}
-use Rattle.machine.specs.declared.state.Machine.{Machine}
 use Rattle.machine.proofs.Accepted.{Inside, sizes-fit, core-small, give-accepted, step-accepted, word-accepted}
 use Rattle.machine.proofs.Numbers.{start-number, give-number, step-number, poke-number}
 use Rattle.machine.proofs.Words.{word-laws}
 use Rattle.machine.proofs.Lawful.{refusal-laws, range-laws}
 use Rattle.machine.proofs.Invariant.{run-inv}
-use Rattle.archive.specs.Records.{kindGood, addressGood, recordGood}
-use Rattle.archive.specs.Promises.{GoodRecord, AllGood, mostRecords, run, freshRun, adds, Close}
+use Rattle.archive.specs.Records.{kindGood, addressGood}
+use Rattle.archive.specs.Promises.{GoodRecord, AllGood}
 use Rattle.archive.proofs.Runs.{every-list-is-archived}
 use Rattle.promises.specs.Archived.{WordsGiven, RecordsAreGood, RunsAreArchived}
 

@@ -2,33 +2,31 @@
 -- Assumes nothing.
 use mathlib.Core.Path.{_≡_, refl, sym, ap, subst, _∙_}
 use mathlib.Core.Logic.{_⊎_, inl, inr, ⊎-elim}
-use mathlib.Core.Bool.{Bool, true, false, true≢false, false≢true}
+use mathlib.Core.Bool.{Bool, true, false, not, true≢false}
 use mathlib.Core.List.{List, [], _∷_, _++_}
 use Prim.Native.Nat.{ℕ, _/_}
 use lib.Dec.{eqb}
-use borrow.Author.Tests.{eqb-true, eqb-false, eq-eqb}
+use borrow.Author.Tests.{eqb-true, eqb-false}
 use Rattle.machine.specs.Basics.{if_then_else_}
-use Rattle.machine.specs.Sizes.{entriesFit}
-use Rattle.machine.specs.Entry.{entryOf}
+use Rattle.machine.specs.Kinds.{pokeCore}
 use Rattle.machine.specs.Calls.{Outcome}
 use Rattle.machine.specs.History.{History, ownSc, spoils, succeeds}
 use Rattle.machine.specs.Reference.{Whole, does, pokes, Reference, refer, finish, scDone, scFailed}
-use Rattle.machine.specs.Runs.{Call, Fresh, after, records, inOrder, entryRule}
+use Rattle.machine.specs.Runs.{Call, Fresh, inOrder, entryRule}
 use Rattle.machine.specs.declared.entry.GuestAddress.{GuestAddress}
 use Rattle.machine.specs.declared.entry.EntryNumber.{EntryNumber}
-use Rattle.machine.specs.declared.answers.Operation.{Operation}
 use Rattle.machine.specs.declared.answers.Operation.the-variants as Asked
 use Rattle.machine.specs.declared.answers.Answer.{Answer}
 use Rattle.machine.specs.declared.answers.Answer.the-variants as Answered
 use Rattle.machine.specs.declared.answers.Record.{Record}
 use Rattle.machine.proofs.Accepted.{sizes-fit}
+use Rattle.machine.proofs.Judging.{and-no}
 use Rattle.machine.proofs.Lawful.{entry-laws}
-use Rattle.machine.proofs.Running.{Inv}
 use Rattle.machine.proofs.Invariant.{run-inv, started-inv}
 use Rattle.promises.specs.Success.{Never, LlBy, ScBy, SpoiledBy, LatestLl, Succeeds}
 use Rattle.promises.specs.Riscv.{SameWord, StoreOfAnother, MustFail, no-lr, outside, stored-to, another-sc}
-use Rattle.promises.specs.Causes.{Cause, never-linked, link-ended, elsewhere, spoiled}
-use Rattle.promises.specs.Demand2.{At, NoForbiddenSuccess, NamedCause, AnswersTell}
+use Rattle.promises.specs.Causes.{Linked, Cause, no-link, elsewhere, spoiled}
+use Rattle.promises.specs.Demand2.{At, NoForbiddenSuccess, NamedCause, AnswersTell, PokeEndsNoLink}
 use Rattle.promises.proofs.Decides.{decided, decides, sc-by, by-sc, spoiled-by, by-spoiled}
 use Rattle.promises.proofs.Histories.{never-at, never-less, never-or-not, told, find-latest, latest-one}
 
@@ -53,18 +51,25 @@ may-succeed entry one c a h s (another-sc lr some) = some (subst (Never (ScBy c)
 
 -- what fails by the written rule has a cause
 has-cause : (entry : GuestAddress → EntryNumber) (c : ℕ) (a : GuestAddress) (h : History) → (Succeeds entry c a h → ⊥) → Cause entry c a h
-has-cause entry c a h fails = ⊎-elim never-linked linked (find-latest c h)
+has-cause entry c a h fails = ⊎-elim (λ none. no-link (λ k. unlinked none k)) latest (find-latest c h)
   where
-    linked : LatestLl c h → Cause entry c a h
-    linked l = go (eqb (l .ll .address .0) (a .0)) refl (never-or-not (ScBy c) (λ r. told (ownSc c r) (sc-by c r) (by-sc c r)) (l .since))
-        (never-or-not (SpoiledBy entry c a) (λ r. told (spoils entry c a r) (spoiled-by entry c a r) (by-spoiled entry c a r)) (l .since))
+    unlinked : Never (LlBy c) h → Linked c h → ⊥
+    unlinked none k = never-at (LlBy c) (k .last .since) (k .last .ll) (k .last .before) (subst (Never (LlBy c)) (k .last .split) none) (k .last .by-core)
+
+    linked : Linked c h → Cause entry c a h
+    linked k = go (eqb (k .last .ll .address .0) (a .0)) refl (never-or-not (SpoiledBy entry c a) (λ r. told (spoils entry c a r) (spoiled-by entry c a r) (by-spoiled entry c a r)) (k .last .since))
       where
-        go : (t : Bool) → eqb (l .ll .address .0) (a .0) ≡ t → Never (ScBy c) (l .since) ⊎ (Never (ScBy c) (l .since) → ⊥) → Never (SpoiledBy entry c a) (l .since) ⊎ (Never (SpoiledBy entry c a) (l .since) → ⊥)
-            → Cause entry c a h
-        go false e u v = elsewhere l (λ p. eqb-false (l .ll .address .0) (a .0) e (ap (λ (b : GuestAddress). b .0) p))
-        go true e (inr u) v = link-ended l u
-        go true e (inl u) (inr v) = spoiled l v
-        go true e (inl u) (inl v) = absurd (fails (record { done = l; there = λ i. record { 0 = eqb-true (l .ll .address .0) (a .0) e i }; no-sc = u; unspoiled = v }))
+        same : eqb (k .last .ll .address .0) (a .0) ≡ true → k .last .ll .address ≡ a
+        same e = λ i. record { 0 = eqb-true (k .last .ll .address .0) (a .0) e i }
+
+        go : (t : Bool) → eqb (k .last .ll .address .0) (a .0) ≡ t → Never (SpoiledBy entry c a) (k .last .since) ⊎ (Never (SpoiledBy entry c a) (k .last .since) → ⊥) → Cause entry c a h
+        go false e v = elsewhere k (λ p. eqb-false (k .last .ll .address .0) (a .0) e (ap (λ (b : GuestAddress). b .0) p))
+        go true e (inr v) = spoiled k (same e) v
+        go true e (inl v) = absurd (fails (record { done = k .last; there = same e; no-sc = k .no-sc; unspoiled = v }))
+
+    latest : LatestLl c h → Cause entry c a h
+    latest l = ⊎-elim (λ u. linked (record { last = l; no-sc = u })) (λ u. no-link (λ k. u (subst (Never (ScBy c)) (latest-one c h (k .last) l .0) (k .no-sc))))
+        (never-or-not (ScBy c) (λ r. told (ownSc c r) (sc-by c r) (by-sc c r)) (l .since))
 
 -- every access of a reference was judged by the rule from what was before it
 abbrev Judged : (GuestAddress → EntryNumber) → History → Type 0
@@ -134,3 +139,7 @@ answers-tell entry ref c a v = go (succeeds entry c a (ref .history)) refl
     go : (t : Bool) → succeeds entry c a (ref .history) ≡ t → AnswersTell entry ref c a v
     go true e = record { zero-is-success = λ p. rw e; one-is-failure = λ p. absurd (eqb-false 0 1 refl (rw e at (ap numberIn p))) }
     go false e = record { zero-is-success = λ p. absurd (eqb-false 1 0 refl (rw e at (ap numberIn p))); one-is-failure = λ p. rw e }
+
+pub poke-ends-no-link : PokeEndsNoLink
+unfolding succeeds
+poke-ends-no-link entry c a b v h = rw (and-no (eqb pokeCore c), and-no (not (eqb pokeCore c)))

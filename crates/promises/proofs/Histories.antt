@@ -1,17 +1,14 @@
 -- Facts about histories: the latest ll is one, and whether there is one, or an access of some sort since, can be told.
 -- Assumes nothing.
 use mathlib.Core.Path.{_≡_, refl, sym, ap, subst, _∙_}
-use mathlib.Core.Logic.{_⊎_, inl, inr, ⊎-elim}
-use mathlib.Core.Bool.{Bool, true, false, not, _&&_, _||_, true≢false, false≢true}
-use mathlib.Core.List.{List, [], _∷_, _++_}
+use mathlib.Core.Logic.{_⊎_, inl, inr}
+use mathlib.Core.Bool.{Bool, true, false, true≢false, false≢true}
+use mathlib.Core.List.{[], _∷_, _++_}
 use Prim.Native.Nat.{ℕ}
-use Rattle.machine.specs.Basics.{if_then_else_}
-use Rattle.machine.specs.History.{History, ownLl, ownSc, spoils}
-use Rattle.machine.specs.declared.entry.GuestAddress.{GuestAddress}
-use Rattle.machine.specs.declared.entry.EntryNumber.{EntryNumber}
+use Rattle.machine.specs.History.{History, ownLl}
 use Rattle.machine.specs.declared.answers.Record.{Record}
-use Rattle.promises.specs.Success.{Never, LlBy, ScBy, SpoiledBy, LatestLl}
-use Rattle.promises.proofs.Decides.{ll-by, by-ll, later}
+use Rattle.promises.specs.Success.{Never, LlBy, LatestLl}
+use Rattle.promises.proofs.Decides.{ll-by, by-ll}
 
 -- no access of a sort in a whole history, at one of its accesses and since it
 pub never-at : (P : Record → Type 0) (since : History) (r : Record) (before : History) → Never P (since ++ r ∷ before) → P r → ⊥

@@ -1,29 +1,28 @@
 -- How the table stands in a run: from the invariant.
 -- Assumes nothing.
 use mathlib.Core.Path.{_≡_, refl, sym, ap, subst, _∙_}
-use mathlib.Core.Bool.{Bool, true, false, not, _&&_, _||_, true≢false, false≢true}
+use mathlib.Core.Bool.{Bool, true, false, not, _&&_}
 use mathlib.Core.List.{List}
-use Prim.Native.Nat.{ℕ, _%_, _≤_, _<_}
+use Prim.Native.Nat.{ℕ, _%_, _≤_}
 use native.Mathlib.Omega.{arith}
 use lib.ListN.{length, getD}
-use lib.Dec.{leb, ltb, eqb}
-use borrow.Author.Tests.{eqb-true, eqb-false, eq-eqb, ne-eqb, le-ltb, leb-true, leb-false}
+use lib.Dec.{leb, eqb}
+use borrow.Author.Tests.{eqb-true, eqb-false, eq-eqb, ne-eqb, le-ltb, leb-true}
 use Rattle.machine.specs.Basics.{if_then_else_}
 use Rattle.machine.specs.Sizes.{written}
 use Rattle.machine.specs.Entry.{entryOf}
 use Rattle.machine.specs.Kinds.{isLoad, codeOf, addressOf}
-use Rattle.machine.specs.Ranges.{coreAt, inRanges, damaged}
+use Rattle.machine.specs.Ranges.{coreAt, damaged}
 use Rattle.machine.specs.Answers.{numberOf}
-use Rattle.machine.specs.Calls.{Outcome, outcome, lentFits, addressRefusal, entryAt, markAt, giveRefusal, giveOf, stepRefusal, stepOf, wordRefusal, pokeOf}
-use Rattle.machine.specs.History.{Link, linkOf, ownerOf}
+use Rattle.machine.specs.Calls.{Outcome, addressRefusal, entryAt, markAt, giveRefusal, stepRefusal, wordRefusal}
+use Rattle.machine.specs.History.{Link, linkOf}
 use Rattle.machine.specs.Runs.{Call, give, step, poke, Fresh, act, after, records, givenTo, deliveredTo, inOrder, entryRule}
 use Rattle.machine.specs.declared.entry.GuestAddress.{GuestAddress}
 use Rattle.machine.specs.declared.answers.Operation.{Operation}
 use Rattle.machine.specs.declared.cores.Core.{Core}
-use Rattle.machine.specs.declared.state.Machine.{Machine}
 use Rattle.machine.proofs.Accepted.{lent}
 use Rattle.machine.proofs.Numbers.{of-both, give-number, step-number, poke-number}
-use Rattle.machine.proofs.Phases.{Locked, ll, store, sc, operationOf, placeOf, Phase, rests, loads, asks, holds, reaches, leaves, picture}
+use Rattle.machine.proofs.Phases.{Locked, ll, store, sc, operationOf, Phase, rests, loads, asks, holds, reaches, leaves, picture}
 use Rattle.machine.proofs.Running.{CoreOk, Inv}
 use Rattle.machine.proofs.Invariant.{run-inv}
 use Rattle.promises.specs.Standing.{Inside, Stands, Standing}

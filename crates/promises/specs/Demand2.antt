@@ -2,8 +2,9 @@
 use mathlib.Core.Path.{_≡_}
 use mathlib.Core.List.{List, _∷_, _++_}
 use Rattle.machine.specs.Calls.{Outcome}
-use Rattle.machine.specs.History.{History}
-use Rattle.machine.specs.Reference.{Reference, finish}
+use Rattle.machine.specs.Kinds.{pokeCore, pokeKind}
+use Rattle.machine.specs.History.{History, succeeds}
+use Rattle.machine.specs.Reference.{Reference, accessOf, finish}
 use Rattle.machine.specs.Runs.{Call, Fresh, records, entryRule}
 use Rattle.machine.specs.declared.entry.GuestAddress.{GuestAddress}
 use Rattle.machine.specs.declared.entry.EntryNumber.{EntryNumber}
@@ -32,3 +33,8 @@ NamedCause =
 pub record AnswersTell (entry : GuestAddress → EntryNumber) (ref : Reference) (c : ℕ) (a : GuestAddress) (v : ℕ) : Type 0 where
   pub zero-is-success : finish entry ref c (Asked.Sc a v) .answer ≡ Answered.Sc 0 → finish entry ref c (Asked.Sc a v) .access .kind ≡ 4
   pub one-is-failure : finish entry ref c (Asked.Sc a v) .answer ≡ Answered.Sc 1 → finish entry ref c (Asked.Sc a v) .access .kind ≡ 5
+
+-- "A poke by the bench .. touches no mark, lock or link": it is no cause
+abbrev pub PokeEndsNoLink : Type 0
+PokeEndsNoLink =
+    (entry : GuestAddress → EntryNumber) (c : ℕ) (a b : GuestAddress) (v : ℕ) (h : History) → succeeds entry c a (accessOf pokeCore pokeKind b v ∷ h) ≡ succeeds entry c a h

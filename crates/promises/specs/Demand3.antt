@@ -7,8 +7,6 @@ use Prim.Native.Nat.{ℕ}
 use Rattle.machine.specs.Calls.{Outcome}
 use Rattle.machine.specs.Reference.{Reference, refer, operationsOf, answersOf}
 use Rattle.machine.specs.Runs.{Call, Fresh, after, records, givenTo, deliveredTo, inOrder, entryRule}
-use Rattle.machine.specs.declared.answers.Operation.{Operation}
-use Rattle.machine.specs.declared.answers.Answer.{Answer}
 
 -- the reference machine after the run's operations, in the order of their access steps, from the fresh machine's memory
 abbrev pub reference : Outcome → List Call → Reference

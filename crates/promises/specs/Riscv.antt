@@ -1,7 +1,6 @@
 -- RISC-V's A extension: when an SC.W must fail, over the cores' own accesses, with the linked word as the reservation set. A history is the accesses before it, the latest first.
 use mathlib.Core.Path.{_≡_}
 use mathlib.Core.Logic.{_⊎_}
-use mathlib.Core.List.{List}
 use Prim.Native.Nat.{ℕ, _/_}
 use Rattle.machine.specs.History.{History}
 use Rattle.promises.specs.Success.{Never, LlBy, ScBy, LatestLl}

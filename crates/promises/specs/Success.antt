@@ -1,7 +1,7 @@
 -- Document 01, "When a store-conditional succeeds": the rule as it is worded, over the history of access steps, the latest first. `entry` is the entry rule.
 use mathlib.Core.Path.{_≡_}
 use mathlib.Core.Logic.{_⊎_}
-use mathlib.Core.List.{List, [], _∷_, _++_}
+use mathlib.Core.List.{[], _∷_, _++_}
 use Prim.Native.Nat.{ℕ}
 use Rattle.machine.specs.History.{History}
 use Rattle.machine.specs.declared.entry.GuestAddress.{GuestAddress}

@@ -1,6 +1,5 @@
 -- Document 01, "Small runs": "3 cores, 64 bytes, 4 entries, fresh, each operation run whole. Marked P: proved."
 use mathlib.Core.Path.{_≡_}
-use mathlib.Core.Bool.{Bool}
 use mathlib.Core.List.{List, [], _∷_, _++_}
 use Prim.Native.Nat.{ℕ}
 use lib.ListN.{replicate}
@@ -9,9 +8,7 @@ use Rattle.machine.specs.Word.{readWord}
 use Rattle.machine.specs.Calls.{Outcome, startOf}
 use Rattle.machine.specs.Reference.{Whole, does, pokes}
 use Rattle.machine.specs.Runs.{Call, give, step, poke, act, after, finishes}
-use Rattle.machine.specs.declared.entry.GuestAddress.{GuestAddress}
 use Rattle.archive.specs.Check.{fletcher}
-use Rattle.machine.specs.declared.answers.Operation.{Operation}
 use Rattle.machine.specs.declared.answers.Operation.the-variants as Asked
 use Rattle.machine.specs.declared.answers.Answer.{Answer}
 use Rattle.machine.specs.declared.answers.Answer.the-variants as Answered
