@@ -1,7 +1,7 @@
 -- A store-conditional succeeds exactly if its core's link is its address and the owner of its entry is its core: the key of the run. The entry rule is any.
 -- Assumes nothing.
 use mathlib.Core.Path.{_≡_, refl, sym, ap, _∙_}
-use mathlib.Core.Bool.{Bool, true, false, not, _&&_, _||_}
+use mathlib.Core.Bool.{false≢true, Bool, true, false, not, _&&_, _||_}
 use mathlib.Core.List.{[], _∷_}
 use Prim.Native.Nat.{ℕ}
 use native.Mathlib.Omega.{arith}
@@ -9,6 +9,7 @@ use lib.Dec.{eqb}
 use borrow.Author.Tests.{eqb-true, eqb-false, eq-eqb, ne-eqb}
 use Rattle.machine.specs.Basics.{if_then_else_}
 use Rattle.machine.specs.Sizes.{written}
+use Rattle.machine.specs.Kinds.{linksKind, unlinksKind}
 use Rattle.machine.specs.History.{History, succeeds, Link, noLink, linkOf, ownerAfter, ownerOf}
 use Rattle.machine.specs.declared.entry.GuestAddress.{GuestAddress}
 use Rattle.machine.specs.declared.entry.EntryNumber.{EntryNumber}
@@ -28,7 +29,7 @@ module _ (i : ℕ) (r : Record) (h : History) where
   unfolding linkOf
   link-other other = rw (ne-eqb (r .core) i other)
 
-  pub link-quiet : eqb (r .kind) 2 ≡ false → eqb (r .kind) 4 || eqb (r .kind) 5 ≡ false → linkOf i (r ∷ h) ≡ linkOf i h
+  pub link-quiet : linksKind (r .kind) ≡ false → unlinksKind (r .kind) ≡ false → linkOf i (r ∷ h) ≡ linkOf i h
   unfolding linkOf
   link-quiet p q = rw (p, q, and-no (eqb (r .core) i))
 
@@ -36,7 +37,7 @@ module _ (i : ℕ) (r : Record) (h : History) where
   unfolding linkOf
   link-ll p q = rw (eq-eqb _ _ p, eq-eqb _ _ q)
 
-  pub link-sc : r .core ≡ i → eqb (r .kind) 2 ≡ false → eqb (r .kind) 4 || eqb (r .kind) 5 ≡ true → linkOf i (r ∷ h) ≡ noLink
+  pub link-sc : r .core ≡ i → linksKind (r .kind) ≡ false → unlinksKind (r .kind) ≡ true → linkOf i (r ∷ h) ≡ noLink
   unfolding linkOf
   link-sc p q u = rw (eq-eqb (r .core) i p, q, u)
 
@@ -85,16 +86,16 @@ module _ (entry : GuestAddress → EntryNumber) (c : ℕ) (a : GuestAddress) whe
 
   -- one access more, by the tests that the three functions make of it
   module _ (r : Record) (h : History) (ih : succeeds entry c a h ≡ linkThere (linkOf c h) && ownerHere (ownerOf entry (entry a .0) h)) where
-    abbrev Claim : (own two three four five same : Bool) → Type 0
-    Claim own two three four five same =
-        (if own && two then eqb (r .address .0) (a .0) else if own && (four || five) then false else if not own && (two || (three || four)) && same then false else succeeds entry c a h)
-        ≡ linkThere (if own && two then record { linked = true; link = r .address } else if own && (four || five) then noLink else linkOf c h)
+    abbrev Claim : (own two three four ends same : Bool) → Type 0
+    Claim own two three four ends same =
+        (if own && two then eqb (r .address .0) (a .0) else if own && ends then false else if not own && (two || (three || four)) && same then false else succeeds entry c a h)
+        ≡ linkThere (if own && two then record { linked = true; link = r .address } else if own && ends then noLink else linkOf c h)
         && ownerHere (if same then (if two then written (r .core)
         else if three then (if eqb (ownerOf entry (entry a .0) h) (written (r .core)) then ownerOf entry (entry a .0) h else 0)
         else if four then 0 else ownerOf entry (entry a .0) h) else ownerOf entry (entry a .0) h)
 
-    mine : (two three four five same : Bool) → r .core ≡ c → eqb (entry (r .address) .0) (entry a .0) ≡ same → Claim true two three four five same
-    mine true three four five same e s = go (eqb (r .address .0) (a .0)) refl
+    mine : (two three four ends same : Bool) → (four ≡ true → ends ≡ true) → r .core ≡ c → eqb (entry (r .address) .0) (entry a .0) ≡ same → Claim true two three four ends same
+    mine true three four ends same success e s = go (eqb (r .address .0) (a .0)) refl
       where
         mark : (t : Bool) → t ≡ true → ownerHere (if t then written (r .core) else ownerOf entry (entry a .0) h) ≡ true
         mark t p = rw p (eq-eqb (written (r .core)) (written c) (ap written e))
@@ -102,22 +103,26 @@ module _ (entry : GuestAddress → EntryNumber) (c : ℕ) (a : GuestAddress) whe
         go : (t : Bool) → eqb (r .address .0) (a .0) ≡ t → t ≡ t && ownerHere (if same then written (r .core) else ownerOf entry (entry a .0) h)
         go true p = sym (mark same (sym s ∙ eq-eqb (entry (r .address) .0) (entry a .0) (ap (λ (b : GuestAddress). entry b .0) (λ i. record { 0 = eqb-true (r .address .0) (a .0) p i }))))
         go false p = refl
-    mine false three true five same e s = refl
-    mine false three false true same e s = refl
-    mine false three false false false e s = ih
-    mine false true false false true e s = rw (own-store (r .core) (ownerOf entry (entry a .0) h) e) ih
-    mine false false false false true e s = ih
+    mine false three four true same success e s = refl
+    mine false three true false same success e s = absurd (false≢true (success refl))
+    mine false three false false false success e s = ih
+    mine false true false false true success e s = rw (own-store (r .core) (ownerOf entry (entry a .0) h) e) ih
+    mine false false false false true success e s = ih
 
-    theirs : (two three four five same : Bool) → (r .core ≡ c → ⊥) → Claim false two three four five same
-    theirs two three four five false e = rw (and-no (two || (three || four))) ih
-    theirs true three four five true e = rw (not-mine (r .core) e) (sym (and-no (linkThere (linkOf c h))))
-    theirs false true four five true e = rw (other-store (r .core) (ownerOf entry (entry a .0) h) e) (sym (and-no (linkThere (linkOf c h))))
-    theirs false false true five true e = rw no-mark (sym (and-no (linkThere (linkOf c h))))
-    theirs false false false five true e = ih
+    theirs : (two three four ends same : Bool) → (r .core ≡ c → ⊥) → Claim false two three four ends same
+    theirs two three four ends false e = rw (and-no (two || (three || four))) ih
+    theirs true three four ends true e = rw (not-mine (r .core) e) (sym (and-no (linkThere (linkOf c h))))
+    theirs false true four ends true e = rw (other-store (r .core) (ownerOf entry (entry a .0) h) e) (sym (and-no (linkThere (linkOf c h))))
+    theirs false false true ends true e = rw no-mark (sym (and-no (linkThere (linkOf c h))))
+    theirs false false false ends true e = ih
 
-    whose : (own : Bool) → eqb (r .core) c ≡ own → Claim own (eqb (r .kind) 2) (eqb (r .kind) 3) (eqb (r .kind) 4) (eqb (r .kind) 5) (eqb (entry (r .address) .0) (entry a .0))
-    whose true e = mine (eqb (r .kind) 2) (eqb (r .kind) 3) (eqb (r .kind) 4) (eqb (r .kind) 5) (eqb (entry (r .address) .0) (entry a .0)) (eqb-true (r .core) c e) refl
-    whose false e = theirs (eqb (r .kind) 2) (eqb (r .kind) 3) (eqb (r .kind) 4) (eqb (r .kind) 5) (eqb (entry (r .address) .0) (entry a .0)) (eqb-false (r .core) c e)
+    -- a successful sc is an sc
+    success-unlinks : eqb (r .kind) 4 ≡ true → unlinksKind (r .kind) ≡ true
+    success-unlinks p = rw p
+
+    whose : (own : Bool) → eqb (r .core) c ≡ own → Claim own (eqb (r .kind) 2) (eqb (r .kind) 3) (eqb (r .kind) 4) (unlinksKind (r .kind)) (eqb (entry (r .address) .0) (entry a .0))
+    whose true e = mine (eqb (r .kind) 2) (eqb (r .kind) 3) (eqb (r .kind) 4) (unlinksKind (r .kind)) (eqb (entry (r .address) .0) (entry a .0)) success-unlinks (eqb-true (r .core) c e) refl
+    whose false e = theirs (eqb (r .kind) 2) (eqb (r .kind) 3) (eqb (r .kind) 4) (unlinksKind (r .kind)) (eqb (entry (r .address) .0) (entry a .0)) (eqb-false (r .core) c e)
 
   pub link-and-owner : (h : History) → succeeds entry c a h ≡ linkThere (linkOf c h) && ownerHere (ownerOf entry (entry a .0) h)
   unfolding succeeds linkOf ownerOf ownerAfter

@@ -82,7 +82,7 @@ fn give_refusal(m: Machine, core: usize, operation: Operation) -> u32
     if m.count <= core {
         return 1;
     }
-    let c = m.cores[core];
+    let c = m.core_at(core);
     if c.busy {
         return 7;
     }
@@ -98,10 +98,8 @@ pub fn give(m: Machine, core: usize, operation: Operation) -> Called
     if number != 0 {
         return Called::refused(number, m);
     }
-    let c = m.cores[core];
-    let mut machine = m;
-    machine.cores[core] = c.given(operation);
-    Called::answered(Answer::Taken, machine)
+    let c = m.core_at(core);
+    Called::answered(Answer::Taken, m.with_core(core, c.given(operation)))
 }
 
 fn step_refusal(m: Machine, memory: usize, owners: &[u8], holders: &[u8], core: usize) -> u32
@@ -117,7 +115,7 @@ fn step_refusal(m: Machine, memory: usize, owners: &[u8], holders: &[u8], core: 
     if m.count <= core {
         return 1;
     }
-    let c = m.cores[core];
+    let c = m.core_at(core);
     if !c.busy {
         return 8;
     }
@@ -131,7 +129,7 @@ fn micro_step_at(m: Machine, memory: &[u8], owners: &[u8], holders: &[u8], core:
     requires { ⌜ Reach m (length (now memory)) (now owners) (now holders) core ⌝ }
     ensures { λ r. ⌜ r ≡ microStepAt m (now (memory .entry)) (now (owners .entry)) (now (holders .entry)) core ⌝ }
 {
-    let c = m.cores[core];
+    let c = m.core_at(core);
     let address = c.address;
     let e = entry_of(m.entries, address).0;
     let word = word::read_word(memory, address);
@@ -150,15 +148,14 @@ fn stepped(
     requires { ⌜ Reach m (length (now memory)) (now owners) (now holders) core ⌝ }
     ensures { λ r. ⌜ outcome r (now (memory .exit)) (now (owners .exit)) (now (holders .exit)) ≡ stepped m (now (memory .entry)) (now (owners .entry)) (now (holders .entry)) core made ⌝ }
 {
-    let c = m.cores[core];
+    let c = m.core_at(core);
     let address = c.address;
     let e = entry_of(m.entries, address).0;
     owners[e] = made.owner;
     holders[e] = made.holder;
     word::write_word_if(made.writes, memory, address, c.value);
-    let mut machine = m;
     let next = made.core;
-    machine.cores[core] = next;
+    let machine = m.with_core(core, next);
     let answer = made.answer;
     let handed = made.made;
     Called {

@@ -4,29 +4,23 @@ use Rattle.machine.specs.Calls.{stepped}
 use Rattle.machine.proofs.calls.stepped.Statement.{statement}
 use Rattle.machine.proofs.calls.stepped.Tie as tie
 
-mul-c : tie.Need-mul-c
-mul-c c = search needs
-
-element-copy-out-c : tie.Need-element-copy-out-c
-element-copy-out-c c = search needs
+core-at-requires : tie.Need-core-at-requires
+core-at-requires c κs = search needs
 
 entry-of-requires : tie.Need-entry-of-requires
 entry-of-requires c κs = search needs
 
 slice-write-owners : tie.Need-slice-write-owners
-slice-write-owners c = rw (c .entry-of .ensures) (c .before .before .before .before .before .before .pre .owner-there)
+slice-write-owners c = rw (c .entry-of .ensures, c .before .before .core-at .ensures) (c .before .before .before .before .before .before .pre .owner-there)
 
 slice-write-holders : tie.Need-slice-write-holders
-slice-write-holders c = rw (c .entry-of .ensures) (c .before .before .before .before .before .before .pre .holder-there)
+slice-write-holders c = rw (c .entry-of .ensures, c .before .before .core-at .ensures) (c .before .before .before .before .before .before .pre .holder-there)
 
 write-word-if-requires : tie.Need-write-word-if-requires
-write-word-if-requires c κs = search needs
+write-word-if-requires c κs = rw (c .before .before .before .core-at .ensures) (c .before .before .before .before .before .before .before .pre .word-there)
 
-mul-next : tie.Need-mul-next
-mul-next c = search needs
-
-element-set-from-next : tie.Need-element-set-from-next
-element-set-from-next c = search needs
+with-core-requires : tie.Need-with-core-requires
+with-core-requires c κs = search needs
 
 same-length : tie.Need-same-length
 same-length c = search needs
@@ -39,20 +33,18 @@ same-length-3 c = search needs
 
 returns : tie.Need-returns
 unfolding stepped
-returns c = rw (c .before .before .before .write-word-if .ensures, c .before .before .before .before .before .entry-of .ensures)
+returns c = rw (c .with-core .ensures, c .before .before .before .before .write-word-if .ensures, c .before .before .before .before .before .before .entry-of .ensures, c .before .before .before .before .before .before .before .before .core-at .ensures)
 
 pub stepped-spec : {M : Type 1} → statement M
 stepped-spec =
     tie.close
     (tie.spec
-    mul-c
-    element-copy-out-c
+    core-at-requires
     entry-of-requires
     slice-write-owners
     slice-write-holders
     write-word-if-requires
-    mul-next
-    element-set-from-next
+    with-core-requires
     same-length
     same-length-2
     same-length-3
