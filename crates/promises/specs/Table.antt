@@ -7,8 +7,11 @@ use Rattle.machine.specs.Basics.{if_then_else_}
 use Rattle.machine.specs.Word.{readWord}
 use Rattle.machine.specs.Calls.{Outcome, startOf}
 use Rattle.machine.specs.Reference.{Whole, does, pokes}
-use Rattle.machine.specs.Runs.{Call, give, step, poke, act, after, finishes}
+use Rattle.machine.specs.Runs.{Call, give, step, poke, act, after, finishes, Fresh}
+use Rattle.machine.specs.History.{History}
+use Rattle.machine.specs.declared.answers.Record.{Record}
 use Rattle.archive.specs.Check.{fletcher}
+use Rattle.promises.specs.Demand2.{At}
 use Rattle.machine.specs.declared.answers.Operation.the-variants as Asked
 use Rattle.machine.specs.declared.answers.Answer.{Answer}
 use Rattle.machine.specs.declared.answers.Answer.the-variants as Answered
@@ -48,13 +51,13 @@ abbrev pub Holds : Row → Type 0
 Holds (plays run answers at word) = (finals (played run []) ≡ answers) × (wordAfter (played run []) at ≡ word)
 Holds (sums words first second) = fletcher words ≡ record { first = first; second = second }
 
-abbrev ll : ℕ → ℕ → Whole
+abbrev pub ll : ℕ → ℕ → Whole
 ll c a = does c (Asked.Ll (record { 0 = a }))
 
-abbrev store : ℕ → ℕ → ℕ → Whole
+abbrev pub store : ℕ → ℕ → ℕ → Whole
 store c a v = does c (Asked.Store (record { 0 = a }) v)
 
-abbrev sc : ℕ → ℕ → ℕ → Whole
+abbrev pub sc : ℕ → ℕ → ℕ → Whole
 sc c a v = does c (Asked.Sc (record { 0 = a }) v)
 
 abbrev linked : Answer
@@ -101,3 +104,9 @@ Each (row ∷ rest) = Holds row × Each rest
 
 abbrev pub SmallRuns : Type 0
 SmallRuns = Each rows
+
+-- The hypotheses of demands 2 and 3 can be met: `small` is fresh, P1's run has an sc that succeeds, and P2's one that fails.
+pub record Met : Type 0 where
+  pub fresh : Fresh small
+  pub success : (r : Record) × (earlier : History) × At small (played (ll 0 8 ∷ sc 0 8 5 ∷ []) []) r earlier × (r .kind ≡ 4)
+  pub failure : (r : Record) × (earlier : History) × At small (played (ll 0 8 ∷ store 1 8 7 ∷ store 1 8 0 ∷ sc 0 8 5 ∷ []) []) r earlier × (r .kind ≡ 5)
