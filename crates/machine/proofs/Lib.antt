@@ -12,3 +12,4 @@ pub mod Phases
 pub mod Running
 pub mod Transitions
 pub mod Invariant
+pub mod Many

@@ -7,6 +7,7 @@ pub mod Life
 pub mod Ranges
 pub mod Answers
 pub mod Calls
+pub mod Place
 pub mod Reach
 pub mod Laws
 pub mod History

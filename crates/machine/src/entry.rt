@@ -3,6 +3,7 @@ ghost use mathlib.Core.Path.{_≡_};
 ghost use Rattle.machine.specs.Entry.{entryOf};
 
 // A byte's address in guest memory.
+#[repr(C)]
 pub struct GuestAddress(pub u32);
 
 // The number of an entry of the table.

@@ -7,7 +7,9 @@ ghost use Prim.Native.Nat.{_<_};
 ghost use Rattle.machine.specs.Ranges.{coreAt};
 ghost use Rattle.machine.specs.Calls.{allIdle, withCore, refused, answered};
 
-// The sizes are those of the lent buffers: memory's bytes, and the entries of each table.
+// The sizes are those of the lent buffers: memory's bytes, and the entries of each table. Laid out as
+// in C, so that a bench can keep one.
+#[repr(C)]
 pub struct Machine {
     pub cores: [Core; 8],
     pub count: usize,
