@@ -1,0 +1,3 @@
+pub mod Packed
+pub mod Machines
+pub mod Archives
