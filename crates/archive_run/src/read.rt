@@ -5,18 +5,22 @@ ghost use Prim.Native.Nat.{_<_};
 ghost use lib.ListN.{length};
 ghost use mathlib.Core.Path.{_≡_};
 
-// All places of a block, and one past the last.
+// The records of a block, in turn, and past the last. 32 are asked for.
 fn block(archive: &[u8], number: u32)
     requires { ⌜ length (now archive) ≡ 2048 ⌝ }
     requires { ⌜ number < 4 ⌝ }
 {
     let at = 512 * (number as usize);
     let mut place = 0;
-    while place < 32 {
+    let mut asked: usize = 0;
+    while asked < 32 {
         io::write_all(STDOUT_FILENO, b"place");
-        say::read(archive::record_at(&archive[at..at + 512], number, false, place));
+        let turn = archive::turn_through(&archive[at..at + 512], place, number, false);
+        let read = turn.read;
+        say::read(read);
         say::end();
-        place += 1;
+        place = turn.place;
+        asked += 1;
     }
 }
 

@@ -201,7 +201,7 @@ fn step(
     holders: &mut [u8],
     core: u32,
 ) -> Machine {
-    let called = machine::step(m, memory, owners, holders, core as usize);
+    let called = machine::step_through(m, memory, owners, holders, core as usize);
     word(b"step");
     spaced(core);
     word(b": ");
