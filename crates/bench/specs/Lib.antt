@@ -1,3 +1,4 @@
 pub mod Packed
 pub mod Machines
 pub mod Archives
+pub mod Laws
