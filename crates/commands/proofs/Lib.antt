@@ -1,0 +1,7 @@
+pub mod Bools
+pub mod Fields
+pub mod Digits
+pub mod Counted
+pub mod Lines
+pub mod Words
+pub mod Written

@@ -1,0 +1,12 @@
+// One line of script: its grammar, its effect on a machine, and the text of its answer.
+//
+// A public call takes any input. Its contract is an equation to a definition of specs/, which says
+// what it answers and leaves, a refusal too.
+mod bytes;
+mod decimal;
+mod grammar;
+
+pub use decimal::Number;
+pub use grammar::Command;
+pub use grammar::Numbers;
+pub use grammar::read_line;
