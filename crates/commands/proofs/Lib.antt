@@ -5,3 +5,4 @@ pub mod Counted
 pub mod Lines
 pub mod Words
 pub mod Written
+pub mod Placed

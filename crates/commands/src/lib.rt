@@ -5,8 +5,10 @@
 mod bytes;
 mod decimal;
 mod grammar;
+mod text;
 
 pub use decimal::Number;
 pub use grammar::Command;
 pub use grammar::Numbers;
 pub use grammar::read_line;
+pub use text::answer_line;
