@@ -6,3 +6,4 @@ pub mod Lines
 pub mod Words
 pub mod Written
 pub mod Placed
+pub mod Lent

@@ -4,10 +4,16 @@
 // what it answers and leaves, a refusal too.
 mod bytes;
 mod decimal;
+mod effect;
 mod grammar;
 mod text;
 
 pub use decimal::Number;
+pub use effect::Ran;
+pub use effect::Session;
+pub use effect::no_machine;
+pub use effect::run;
+pub use effect::run_line;
 pub use grammar::Command;
 pub use grammar::Numbers;
 pub use grammar::read_line;
