@@ -1,0 +1,5 @@
+pub mod Bytes
+pub mod Decimal
+pub mod Grammar
+pub mod Effect
+pub mod Texts

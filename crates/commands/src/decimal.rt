@@ -1,0 +1,111 @@
+// Decimal numbers without needless zeros, read and written.
+use crate::bytes;
+ghost use mathlib.Core.Path.{_≡_};
+ghost use mathlib.Core.Bool.{_&&_};
+ghost use Prim.Native.Nat.{_+_, _≤_};
+ghost use lib.ListN.{length, drop, getD};
+ghost use lib.Dec.{eqb};
+ghost use Rattle.commands.specs.Bytes.{putIn};
+ghost use Rattle.commands.specs.Decimal.{isDigit, digitOf, readOn, numberFrom, fieldOf, decimal};
+
+// What a field of a line says.
+pub enum Number {
+    Wrong,
+    Is(u32),
+}
+
+// A field read as a number, whether a further field follows, and where that one begins.
+pub(crate) struct Field {
+    pub number: Number,
+    pub more: bool,
+    pub next: usize,
+}
+
+fn is_digit(b: u8) -> bool
+    ensures { λ r. ⌜ r ≡ isDigit b ⌝ }
+{
+    (48 <= b) & (b <= 57)
+}
+
+fn digit_of(b: u8) -> u64
+    ensures { λ r. ⌜ r ≡ digitOf b ⌝ }
+    ensures { λ r. ⌜ r ≤ 9 ⌝ }
+{
+    if is_digit(b) { (b - 48) as u64 } else { 0 }
+}
+
+// One more digit. What is too large for a number stays so.
+fn read_on(value: u64, b: u8) -> u64
+    requires { ⌜ value ≤ 42949672959 ⌝ }
+    ensures { λ r. ⌜ r ≡ readOn value b ⌝ }
+    ensures { λ r. ⌜ r ≤ 42949672959 ⌝ }
+{
+    if value <= 4294967295 { 10 * value + digit_of(b) } else { value }
+}
+
+fn number_from(count: usize, digits: bool, zero: bool, value: u64) -> Number
+    ensures { λ r. ⌜ r ≡ numberFrom count digits zero value ⌝ }
+{
+    let good = (count != 0) & digits & !((1 < count) & zero) & (value <= 4294967295);
+    if good {
+        return Number::Is(value as u32);
+    }
+    Number::Wrong
+}
+
+// The byte at a place is a zero digit.
+fn zero_at(line: &[u8], from: usize) -> bool
+    ensures { λ r. ⌜ r ≡ eqb (getD (now (line .entry)) from 0) 48 ⌝ }
+{
+    if from < line.len() {
+        return line[from] == 48;
+    }
+    false
+}
+
+// The field that begins at a place.
+pub(crate) fn field_at(line: &[u8], from: usize) -> Field
+    requires { ⌜ from ≤ length (now line) ⌝ }
+    ensures { λ r. ⌜ r ≡ fieldOf (now (line .entry)) from ⌝ }
+    ensures { λ r. ⌜ r .next ≤ length (now (line .entry)) ⌝ }
+{
+    let mut value = 0u64;
+    let mut digits = true;
+    let mut at = from;
+    while at < line.len() && line[at] != 32 {
+        value = read_on(value, line[at]);
+        digits = digits & is_digit(line[at]);
+        at += 1;
+    }
+    let number = number_from(at - from, digits, zero_at(line, from), value);
+    if at < line.len() {
+        return Field {
+            number,
+            more: true,
+            next: at + 1,
+        };
+    }
+    Field {
+        number,
+        more: false,
+        next: at,
+    }
+}
+
+// Writes a number's digits in at a place, and answers where they end.
+pub(crate) fn put_decimal(number: u64, out: &mut [u8], at: usize) -> usize
+    requires { ⌜ at + length (decimal number) ≤ length (now out) ⌝ }
+    ensures { λ _. ⌜ now (out .exit) ≡ putIn (decimal number) at (now (out .entry)) ⌝ }
+    ensures { λ r. ⌜ r ≡ at + length (decimal number) ⌝ }
+{
+    let mut digits = [0u8; 20];
+    let mut left = number;
+    let mut from = 19;
+    while 9 < left {
+        digits[from] = 48 + (left % 10) as u8;
+        left = left / 10;
+        from -= 1;
+    }
+    digits[from] = 48 + left as u8;
+    bytes::put(&digits[from..], out, at)
+}

@@ -1,0 +1,20 @@
+// One line of script: its grammar, its effect on a machine, and the text of its answer.
+//
+// A public call takes any input. Its contract is an equation to a definition of specs/, which says
+// what it answers and leaves, a refusal too.
+mod bytes;
+mod decimal;
+mod effect;
+mod grammar;
+mod text;
+
+pub use decimal::Number;
+pub use effect::Ran;
+pub use effect::Session;
+pub use effect::no_machine;
+pub use effect::run;
+pub use effect::run_line;
+pub use grammar::Command;
+pub use grammar::Numbers;
+pub use grammar::read_line;
+pub use text::answer_line;

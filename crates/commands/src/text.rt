@@ -1,0 +1,82 @@
+// The line that an answer is written as.
+use crate::bytes::put;
+use crate::decimal::put_decimal;
+use machine::Answer;
+ghost use mathlib.Core.Path.{_≡_};
+ghost use Prim.Native.Nat.{_+_, _≤_};
+ghost use mathlib.Core.List.{_++_};
+ghost use lib.ListN.{length};
+ghost use Rattle.commands.specs.Bytes.{putIn};
+ghost use Rattle.commands.specs.Decimal.{decimal};
+ghost use Rattle.commands.specs.Texts.{numberText, wordsOf, answerPut, answerEnd};
+
+// A word, and the value after it.
+fn put_valued(word: &[u8], value: u32, out: &mut [u8], at: usize) -> usize
+    requires { ⌜ at + length (now word) + 10 ≤ length (now out) ⌝ }
+    ensures { λ _. ⌜ now (out .exit) ≡ putIn (now (word .entry) ++ decimal value) at (now (out .entry)) ⌝ }
+    ensures { λ r. ⌜ r ≡ at + length (now (word .entry) ++ decimal value) ⌝ }
+    ensures { λ r. ⌜ r ≤ at + length (now (word .entry)) + 10 ⌝ }
+{
+    let to = put(word, out, at);
+    put_decimal(value as u64, out, to)
+}
+
+fn put_words(answer: Answer, out: &mut [u8], at: usize) -> usize
+    requires { ⌜ at + 15 ≤ length (now out) ⌝ }
+    ensures { λ _. ⌜ now (out .exit) ≡ putIn (wordsOf answer) at (now (out .entry)) ⌝ }
+    ensures { λ r. ⌜ r ≡ at + length (wordsOf answer) ⌝ }
+    ensures { λ r. ⌜ r ≤ at + 15 ⌝ }
+{
+    match answer {
+        Answer::Refused(_) => put(b"refused", out, at),
+        Answer::Ready => put(b"ready", out, at),
+        Answer::Taken => put(b"taken", out, at),
+        Answer::Moved => put(b"moved", out, at),
+        Answer::Waits => put(b"waits", out, at),
+        Answer::Load(v) => put_valued(b"load ", v, out, at),
+        Answer::Ll(v) => put_valued(b"ll ", v, out, at),
+        Answer::Store => put(b"store", out, at),
+        Answer::Sc(v) => put_valued(b"sc ", v, out, at),
+        Answer::Poked => put(b"poked", out, at),
+        Answer::Word(v) => put_valued(b"word ", v, out, at),
+    }
+}
+
+// A number, and the space after it.
+fn put_number(number: u64, out: &mut [u8], at: usize) -> usize
+    requires { ⌜ at + length (decimal number) + 1 ≤ length (now out) ⌝ }
+    ensures { λ _. ⌜ now (out .exit) ≡ putIn (numberText number) at (now (out .entry)) ⌝ }
+    ensures { λ r. ⌜ r ≡ at + length (numberText number) ⌝ }
+{
+    let to = put_decimal(number, out, at);
+    put(b" ", out, to)
+}
+
+// The number of an answer, and the space after it.
+fn put_answer(number: u32, out: &mut [u8], at: usize) -> usize
+    requires { ⌜ at + 11 ≤ length (now out) ⌝ }
+    ensures { λ _. ⌜ now (out .exit) ≡ putIn (numberText number) at (now (out .entry)) ⌝ }
+    ensures { λ r. ⌜ r ≡ at + length (numberText number) ⌝ }
+    ensures { λ r. ⌜ r ≤ at + 11 ⌝ }
+{
+    put_number(number as u64, out, at)
+}
+
+// Writes an answer's line in at a place of the lent bytes, where there is room for the longest,
+// and answers where it ends.
+pub fn answer_line(number: u64, answer: Answer, out: &mut [u8], at: usize) -> usize
+    ensures text { λ r. ⌜ now (out .exit) ≡ answerPut number answer (now (out .entry)) at ⌝ }
+    ensures end { λ r. ⌜ r ≡ answerEnd number answer (length (now (out .entry))) at ⌝ }
+    ensures fits { λ r. ⌜ r ≤ at + 48 ⌝ }
+{
+    if out.len() < 48 {
+        return at;
+    }
+    if out.len() - 48 < at {
+        return at;
+    }
+    let first = put_number(number, out, at);
+    let second = put_answer(answer.number(), out, first);
+    let third = put_words(answer, out, second);
+    put(b"\n", out, third)
+}
