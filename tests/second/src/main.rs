@@ -3,9 +3,13 @@
 #![deny(unsafe_code)]
 
 mod archive;
+mod bench;
+mod compare;
 mod history;
 mod machine;
 mod program;
+#[cfg(proved)]
+mod proved;
 mod random;
 mod script;
 #[cfg(test)]
@@ -15,7 +19,12 @@ use std::process::ExitCode;
 
 const USAGE: &str = "usage:
   second script [archive FILE | records FILE]
+  second compare [--long] [--alone] [--seed N] [--program PATH]
+  second bench [growth]
 ";
+
+/// Where the proved program stands after a build.
+const PROGRAM: &str = concat!(env!("CARGO_MANIFEST_DIR"), "/../../target/bin/script");
 
 fn main() -> ExitCode {
     let arguments: Vec<String> = std::env::args().skip(1).collect();
@@ -24,10 +33,14 @@ fn main() -> ExitCode {
         ["script"] => program::run_plain(),
         ["script", "archive", file] => program::run_archiving(file),
         ["script", "records", file] => program::print_records(file),
-        _ => {
-            eprint!("{USAGE}");
-            return ExitCode::from(2);
-        }
+        ["compare", options @ ..] => match compare_plan(options) {
+            Some(plan) if compare::run(&plan) => Ok(()),
+            Some(_) => return ExitCode::FAILURE,
+            None => return usage(),
+        },
+        ["bench"] => bench::run(PROGRAM.as_ref()),
+        ["bench", "growth"] => bench::growth(PROGRAM.as_ref()),
+        _ => return usage(),
     };
     match result {
         Ok(()) => ExitCode::SUCCESS,
@@ -35,5 +48,36 @@ fn main() -> ExitCode {
             eprintln!("second: {error}");
             ExitCode::FAILURE
         }
+    }
+}
+
+fn usage() -> ExitCode {
+    eprint!("{USAGE}");
+    ExitCode::from(2)
+}
+
+fn compare_plan(mut options: &[&str]) -> Option<compare::Plan> {
+    let mut plan = compare::Plan { seed: 1, times: 1, program: PROGRAM.into(), alone: false };
+    loop {
+        options = match options {
+            [] => return Some(plan),
+            ["--long", rest @ ..] => {
+                plan.times = 20;
+                rest
+            }
+            ["--alone", rest @ ..] => {
+                plan.alone = true;
+                rest
+            }
+            ["--seed", seed, rest @ ..] => {
+                plan.seed = seed.parse().ok()?;
+                rest
+            }
+            ["--program", path, rest @ ..] => {
+                plan.program = path.into();
+                rest
+            }
+            _ => return None,
+        };
     }
 }

@@ -1,0 +1,194 @@
+//! The comparison: this package against the proved library and program, and against the reference.
+//! It goes by a seed, prints what it compared in counts, and ends at the first difference.
+
+pub mod archives;
+pub mod deeds;
+mod invented;
+mod reference;
+mod runs;
+mod scripts;
+mod shrink;
+
+use crate::random::Random;
+use deeds::{first_difference, Deed, Engine, Second};
+use runs::{random_run, Happened};
+use std::fmt::Write as _;
+use std::panic::{catch_unwind, AssertUnwindSafe};
+use std::path::PathBuf;
+use std::time::Instant;
+
+#[cfg(proved)]
+use crate::proved::Library;
+#[cfg(not(proved))]
+use deeds::Second as Library;
+
+/// What to compare, and for how long.
+pub struct Plan {
+    pub seed: u64,
+    /// How many times the work of the default.
+    pub times: usize,
+    pub program: PathBuf,
+    /// Leave out what needs the proved library or program.
+    pub alone: bool,
+}
+
+/// The first difference, with the shortest script found that shows it.
+#[derive(Debug)]
+pub struct Difference {
+    pub what: String,
+    /// How many deeds or lines it took until it showed.
+    pub deeds: usize,
+    pub script: String,
+}
+
+impl Difference {
+    pub fn plain(what: String) -> Difference {
+        Difference { what, deeds: 1, script: String::new() }
+    }
+}
+
+/// What was compared, in the order in which it was first counted.
+#[derive(Default)]
+pub struct Counts(Vec<(&'static str, u64)>);
+
+impl Counts {
+    pub fn add(&mut self, name: &'static str, more: usize) {
+        match self.0.iter_mut().find(|(old, _)| *old == name) {
+            Some((_, count)) => *count += more as u64,
+            None => self.0.push((name, more as u64)),
+        }
+    }
+}
+
+/// A panic of either side is a difference like any other.
+pub fn caught(differ: impl FnOnce() -> Option<String>) -> Option<String> {
+    catch_unwind(AssertUnwindSafe(differ)).unwrap_or_else(|payload| {
+        let text = payload.downcast_ref::<String>().map(String::as_str);
+        let text = text.or_else(|| payload.downcast_ref::<&str>().copied()).unwrap_or("no words");
+        Some(format!("a call broke off: {text}"))
+    })
+}
+
+/// Shortens the deeds that show a difference; `before` is how many calls had shown none.
+fn shown(deeds: &[Deed], before: usize, find: impl Fn(&[Deed]) -> Option<(usize, String)>) -> Difference {
+    let differ = |deeds: &[Deed]| caught(|| find(deeds).map(|(_, what)| what));
+    let short = shrink::shortest(deeds, |deeds| differ(deeds).is_some());
+    let mut script = String::new();
+    for deed in &short {
+        writeln!(script, "{deed}").expect("text");
+    }
+    let at =
+        catch_unwind(AssertUnwindSafe(|| find(deeds))).ok().flatten().map_or(deeds.len(), |(at, _)| at + 1);
+    Difference { what: differ(&short).unwrap_or_default(), deeds: before + at, script }
+}
+
+/// Long random runs, each against the reference and against the other engine.
+fn compare_runs<B: Engine>(plan: &Plan, counts: &mut Counts) -> Result<(), Difference> {
+    let mut happened = Happened::default();
+    for number in 0..1_500 * plan.times {
+        let random = &mut Random::part(plan.seed, "run", number as u64);
+        let length = random.pick(&[30, 300, 3_000]);
+        let deeds = random_run(random, length);
+        let before = happened.calls as usize;
+        if caught(|| first_difference::<Second, B>(&deeds).map(|(_, what)| what)).is_some() {
+            return Err(shown(&deeds, before, first_difference::<Second, B>));
+        }
+        if caught(|| reference::first_departure::<Second>(&deeds).map(|(_, what)| what)).is_some() {
+            return Err(shown(&deeds, before, reference::first_departure::<Second>));
+        }
+        happened.note_all(&deeds);
+    }
+    counts.add("calls in runs, every field and byte after each", happened.calls as usize);
+    counts.add("  access steps and pokes, each against the reference", happened.accesses as usize);
+    counts.add("  waits", happened.waits as usize);
+    counts.add("  store-conditionals that succeeded", happened.successes as usize);
+    counts.add("  store-conditionals that failed", happened.failures as usize);
+    println!("refusals in runs, by number: {}", happened.refused());
+    Ok(())
+}
+
+/// Invented states and tables, wrong lengths and starts of any kind.
+fn compare_invented<B: Engine>(plan: &Plan, counts: &mut Counts) -> Result<(), Difference> {
+    let mut happened = Happened::default();
+    let mut found = None;
+    let mut each =
+        |deeds: &[Deed]| match caught(|| first_difference::<Second, B>(deeds).map(|(_, what)| what)) {
+            None => {
+                happened.note_all(deeds);
+                Ok(())
+            }
+            Some(what) => {
+                found = Some(shown(deeds, happened.calls as usize, first_difference::<Second, B>));
+                Err(what)
+            }
+        };
+    let mut all = || -> Result<(), String> {
+        for number in 0..16 * plan.times {
+            invented::alone(&mut Random::part(plan.seed, "alone", number as u64), &mut each)?;
+        }
+        for number in 0..100_000 * plan.times {
+            each(&invented::together(&mut Random::part(plan.seed, "together", number as u64)))?;
+        }
+        for number in 0..30_000 * plan.times {
+            each(&invented::made_up(&mut Random::part(plan.seed, "made up", number as u64)))?;
+        }
+        for number in 0..3_000 * plan.times {
+            each(&invented::any_start(&mut Random::part(plan.seed, "start", number as u64)))?;
+        }
+        Ok(())
+    };
+    let ended = all();
+    if let Some(difference) = found {
+        return Err(difference);
+    }
+    ended.map_err(Difference::plain)?;
+    counts.add("calls in and after invented states", happened.calls as usize);
+    println!("refusals in invented states, by number: {}", happened.refused());
+    Ok(())
+}
+
+type Part = fn(&Plan, &mut Counts) -> Result<(), Difference>;
+
+/// The parts, and whether each is of use without the proved library.
+const PARTS: [(&str, bool, Part); 5] = [
+    ("runs", true, compare_runs::<Library>),
+    ("invented states", false, compare_invented::<Library>),
+    ("archives", true, |plan, counts| archives::compare::<Second, Library>(plan.seed, plan.times, counts)),
+    ("script lines", true, scripts::compare_lines),
+    ("script program", false, scripts::compare_program),
+];
+
+/// Runs every part; false at the first difference.
+pub fn run(plan: &Plan) -> bool {
+    if !cfg!(proved) && !plan.alone {
+        println!("built without the proved library; only `--alone` goes without it");
+        return false;
+    }
+    let others =
+        if plan.alone { "the reference alone" } else { "the proved library, the program, the reference" };
+    println!("seed {}, {} times the default, against {others}", plan.seed, plan.times);
+    // What breaks off is told with the script that shows it.
+    std::panic::set_hook(Box::new(|_| {}));
+    let mut counts = Counts::default();
+    for (name, alone, part) in PARTS {
+        if plan.alone && !alone {
+            println!("not compared: {name}");
+            continue;
+        }
+        let begun = Instant::now();
+        if let Err(difference) = part(plan, &mut counts) {
+            report(plan, name, &difference);
+            return false;
+        }
+        println!("{name}: no difference, {:.1} s", begun.elapsed().as_secs_f64());
+    }
+    for (name, count) in &counts.0 {
+        println!("{count:>12} {name}");
+    }
+    true
+}
+
+fn report(plan: &Plan, name: &str, difference: &Difference) {
+    println!("DIFFERENCE in {name}, seed {}, after {}: {}", plan.seed, difference.deeds, difference.what);
+    println!("shortest script found:\n{}", difference.script);
+}
