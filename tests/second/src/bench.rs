@@ -77,7 +77,7 @@ impl Archived for Second {
     fn hand_out(block: &[u8], expected: u32) -> usize {
         let (_, mut reader) = Reader::open(block, expected, false);
         let mut records = 0;
-        while let Read::Record(record, _) = reader.next() {
+        while let Read::Record(record, _) = black_box(&mut reader).next() {
             black_box(record);
             records += 1;
         }

@@ -163,56 +163,91 @@ fn entries_fit(entries: usize) -> bool {
     entries.is_power_of_two() & (entries <= ENTRY_LIMIT)
 }
 
-/// What may be other than 0 at each operation and next step; a place that no core can be at has `NEVER`.
-const BUSY: u8 = 1;
-const VALUE: u8 = 2;
-const READ: u8 = 4;
-const PASSED: u8 = 8;
-const NEVER: u8 = 16;
+/// An address that is a multiple of 4 and below the largest memory has none of these bits.
+const NO_ADDRESS: u32 = !(MEMORY_LIMIT as u32 - 4);
 
-const IN_USE: [u8; 64] = in_use();
+/// For each shape of a core, the bits that must be 0 in its address, link, value and what it read.
+const MUST_BE_ZERO: [[u32; 4]; SHAPES] = must_be_zero();
+const SHAPES: usize = 512;
 
-const fn in_use() -> [u8; 64] {
-    let mut table = [NEVER; 64];
-    table[0] = 0;
-    table[place(LOAD, 1)] = BUSY;
-    let mut next = 1;
-    while next <= 4 {
-        table[place(LL, next)] = BUSY;
-        table[place(STORE, next)] = BUSY | VALUE;
-        table[place(SC, next)] = BUSY | VALUE;
-        next += 1;
+/// For each shape, whether no core can have it.
+const NEVER: [bool; SHAPES] = never();
+
+/// A core's shape: next step and operation, each below 8 or the core is out of range, and three flags.
+#[inline]
+fn shape(core: &Core) -> usize {
+    let numbers = core.next as usize | (core.operation as usize) << 3;
+    let flags = (core.busy as usize) << 6 | (core.passed as usize) << 7 | (core.linked as usize) << 8;
+    (numbers | flags) % SHAPES
+}
+
+const fn must_be_zero() -> [[u32; 4]; SHAPES] {
+    let mut table = [[0; 4]; SHAPES];
+    let mut number = 0;
+    while number < SHAPES {
+        let (next, operation) = (number & 7, (number >> 3 & 7) as u8);
+        let (busy, linked) = (number >> 6 & 1 == 1, number >> 8 & 1 == 1);
+        table[number] = [
+            if busy { NO_ADDRESS } else { !0 },
+            if linked { NO_ADDRESS } else { !0 },
+            if operation == STORE || operation == SC { 0 } else { !0 },
+            if operation == LL && next == 4 { 0 } else { !0 },
+        ];
+        number += 1;
     }
-    table[place(LL, 4)] |= READ;
-    table[place(SC, 3)] |= PASSED;
-    table[place(SC, 4)] |= PASSED;
     table
 }
 
-#[inline]
-const fn place(operation: u8, next: u8) -> usize {
-    ((operation & 7) * 8 + (next & 7)) as usize
+const fn never() -> [bool; SHAPES] {
+    let mut table = [true; SHAPES];
+    let mut number = 0;
+    while number < SHAPES {
+        let (next, operation) = (number & 7, (number >> 3 & 7) as u8);
+        let (busy, passed) = (number >> 6 & 1 == 1, number >> 7 & 1 == 1);
+        let occurs = match operation {
+            0 => !busy && next == 0,
+            LOAD => busy && next == 1,
+            LL | STORE | SC => busy && next >= 1 && next <= 4,
+            _ => false,
+        };
+        table[number] = !occurs || (passed && !(operation == SC && next >= 3));
+        number += 1;
+    }
+    table
+}
+
+/// What is wrong in the cores looked at so far, gathered without a branch, four fields side by side.
+#[derive(Default)]
+struct Wrong {
+    fields: [u32; 4],
+    outside: [u32; 4],
+    shapes: bool,
+    numbers: u8,
+}
+
+impl Wrong {
+    #[inline]
+    fn look_at(&mut self, core: &Core, last: u32) {
+        let shape = shape(core);
+        let fields = [core.address, core.link, core.value, core.read];
+        for (at, field) in fields.into_iter().enumerate() {
+            self.fields[at] |= field & MUST_BE_ZERO[shape][at];
+            // The highest bit tells an address past the last one.
+            self.outside[at] |= last.wrapping_sub(field);
+        }
+        self.shapes |= NEVER[shape];
+        self.numbers |= core.operation | core.next;
+    }
+
+    #[inline]
+    fn nothing(&self) -> bool {
+        let [a, b, c, d] = self.fields;
+        let outside = (self.outside[0] | self.outside[1]) >> 31;
+        ((a | b | c | d | outside) == 0) & !self.shapes & (self.numbers < 8)
+    }
 }
 
 impl Core {
-    /// Whether every field is in its range, without a branch: an idle core's address is 0, which is
-    /// inside every memory, so addresses and links are tested alike whether used or not.
-    #[inline]
-    fn in_ranges(&self, bytes: usize, counted: bool) -> bool {
-        let may = IN_USE[place(self.operation, self.next)];
-        let has = (self.busy as u8) * BUSY
-            | ((self.value != 0) as u8) * VALUE
-            | ((self.read != 0) as u8) * READ
-            | (self.passed as u8) * PASSED;
-        let shape =
-            ((self.operation | self.next) < 8) & (has & !may == 0) & ((has ^ may) & (BUSY | NEVER) == 0);
-        let unused = (self.busy | (self.address == 0)) & (self.linked | (self.link == 0));
-        let inside = ((self.address | self.link) & 3 == 0)
-            & ((self.address as usize) < bytes)
-            & ((self.link as usize) < bytes);
-        shape & unused & inside & (counted | !(self.busy | self.linked))
-    }
-
     /// The core after it was given an operation; its link stays.
     #[inline]
     fn given(self, operation: Operation, address: u32) -> Core {
@@ -341,12 +376,14 @@ impl Machine {
     /// Whether the state is in its ranges: the sizes, and all eight cores in one pass.
     #[inline]
     fn in_ranges(&self) -> bool {
-        let mut fits =
+        let sizes =
             memory_fits(self.bytes) & entries_fit(self.entries) & (self.count >= 1) & (self.count <= CORES);
-        for (number, core) in self.cores.iter().enumerate() {
-            fits &= core.in_ranges(self.bytes, number < self.count);
+        let (counted, beyond) = self.cores.split_at(self.count.min(CORES));
+        let mut wrong = Wrong::default();
+        for core in counted {
+            wrong.look_at(core, (self.bytes as u32).wrapping_sub(4));
         }
-        fits
+        sizes & wrong.nothing() & beyond.iter().all(|core| *core == Core::default())
     }
 }
 
