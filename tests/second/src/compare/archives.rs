@@ -205,24 +205,42 @@ fn round_trip<A: Archivist, B: Archivist>(
     deeds.extend([Deed::Close { lent: 512 }, Deed::Close { lent: 512 }]);
     deeds.push(Deed::Add { record: [0; PLACE], lent: 0 });
     compare_writers::<A, B>(&deeds, counts)?;
-    let archive: Vec<u8> =
-        (0..).zip(records.chunks(PLACES)).flat_map(|(number, records)| encoded(number, records)).collect();
-    let failed = |what: &str| Err(Difference::plain(format!("an archive of {length} records: {what}")));
-    if put_out::<A>(&deeds) != archive {
-        return failed("what was put out is not the archive of the records");
-    }
     counts.add("archives written and read back", 1);
-    let expected = Whole::Holds(length as u32);
-    if A::whole(&archive) != expected || B::whole(&archive) != expected {
-        return failed("it is not read as whole");
+    counts.add("  records in them", length);
+    let differ = |records: &[Record]| caught(|| trips_differ::<A, B>(records));
+    if differ(&records).is_none() {
+        return Ok(());
     }
-    for (number, record) in (0..).zip(&records) {
-        let expected = Sought::Record(*record, number);
-        if A::sought(&archive, number) != expected || B::sought(&archive, number) != expected {
-            return failed(&format!("record {number} is not read back"));
+    let short = shortest(&records, |records| differ(records).is_some());
+    let script = format!("the archive of {short:?}\n");
+    Err(Difference { what: differ(&short).unwrap_or_default(), deeds: length, script })
+}
+
+/// Whether both sides put out the archive of the records, and read them back from it.
+fn trips_differ<A: Archivist, B: Archivist>(records: &[Record]) -> Option<String> {
+    let adds = records.iter().map(|record| Deed::Add { record: place_of(record, 0), lent: 512 });
+    let deeds: Vec<Deed> = adds.chain([Deed::Close { lent: 512 }]).collect();
+    let numbered = (0..).zip(records.chunks(PLACES));
+    let archive: Vec<u8> = numbered.flat_map(|(number, records)| encoded(number, records)).collect();
+    for put in [put_out::<A>(&deeds), put_out::<B>(&deeds)] {
+        if put != archive {
+            let at = (0..archive.len()).find(|&at| put.get(at) != Some(&archive[at]));
+            return Some(format!("what was put out is not the archive of the records, from byte {at:?}"));
         }
     }
-    Ok(())
+    for whole in [A::whole(&archive), B::whole(&archive)] {
+        if whole != Whole::Holds(records.len() as u32) {
+            return Some(format!("the archive is read as {whole:?}"));
+        }
+    }
+    for (number, record) in (0..).zip(records) {
+        for sought in [A::sought(&archive, number), B::sought(&archive, number)] {
+            if sought != Sought::Record(*record, number) {
+                return Some(format!("record {number} is read back as {sought:?}"));
+            }
+        }
+    }
+    None
 }
 
 fn put_out<A: Archivist>(deeds: &[Deed]) -> Vec<u8> {
