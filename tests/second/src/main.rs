@@ -19,7 +19,7 @@ use std::process::ExitCode;
 
 const USAGE: &str = "usage:
   second script [archive FILE | records FILE]
-  second compare [--long] [--alone] [--seed N] [--program PATH]
+  second compare [--long] [--seed N] [--program PATH] [--no-program] [--alone]
   second bench [growth]
 ";
 
@@ -57,7 +57,7 @@ fn usage() -> ExitCode {
 }
 
 fn compare_plan(mut options: &[&str]) -> Option<compare::Plan> {
-    let mut plan = compare::Plan { seed: 1, times: 1, program: PROGRAM.into(), alone: false };
+    let mut plan = compare::Plan { seed: 1, times: 1, program: Some(PROGRAM.into()), alone: false };
     loop {
         options = match options {
             [] => return Some(plan),
@@ -67,6 +67,11 @@ fn compare_plan(mut options: &[&str]) -> Option<compare::Plan> {
             }
             ["--alone", rest @ ..] => {
                 plan.alone = true;
+                plan.program = None;
+                rest
+            }
+            ["--no-program", rest @ ..] => {
+                plan.program = None;
                 rest
             }
             ["--seed", seed, rest @ ..] => {
@@ -74,7 +79,7 @@ fn compare_plan(mut options: &[&str]) -> Option<compare::Plan> {
                 rest
             }
             ["--program", path, rest @ ..] => {
-                plan.program = path.into();
+                plan.program = Some(path.into());
                 rest
             }
             _ => return None,

@@ -27,8 +27,9 @@ pub struct Plan {
     pub seed: u64,
     /// How many times the work of the default.
     pub times: usize,
-    pub program: PathBuf,
-    /// Leave out what needs the proved library or program.
+    /// The proved program, if it is to be compared.
+    pub program: Option<PathBuf>,
+    /// Leave out what needs the proved library.
     pub alone: bool,
 }
 
@@ -85,7 +86,7 @@ fn shown(deeds: &[Deed], before: usize, find: impl Fn(&[Deed]) -> Option<(usize,
 /// Long random runs, each against the reference and against the other engine.
 fn compare_runs<B: Engine>(plan: &Plan, counts: &mut Counts) -> Result<(), Difference> {
     let mut happened = Happened::default();
-    for number in 0..1_500 * plan.times {
+    for number in 0..6_000 * plan.times {
         let random = &mut Random::part(plan.seed, "run", number as u64);
         let length = random.pick(&[30, 300, 3_000]);
         let deeds = random_run(random, length);
@@ -96,7 +97,7 @@ fn compare_runs<B: Engine>(plan: &Plan, counts: &mut Counts) -> Result<(), Diffe
         if caught(|| reference::first_departure::<Second>(&deeds).map(|(_, what)| what)).is_some() {
             return Err(shown(&deeds, before, reference::first_departure::<Second>));
         }
-        happened.note_all(&deeds);
+        happened.note_from(&deeds, 0);
     }
     counts.add("calls in runs, every field and byte after each", happened.calls as usize);
     counts.add("  access steps and pokes, each against the reference", happened.accesses as usize);
@@ -114,7 +115,8 @@ fn compare_invented<B: Engine>(plan: &Plan, counts: &mut Counts) -> Result<(), D
     let mut each =
         |deeds: &[Deed]| match caught(|| first_difference::<Second, B>(deeds).map(|(_, what)| what)) {
             None => {
-                happened.note_all(deeds);
+                let edited = deeds.iter().position(|deed| matches!(deed, Deed::Edit(_)));
+                happened.note_from(deeds, edited.unwrap_or(0));
                 Ok(())
             }
             Some(what) => {
@@ -123,13 +125,13 @@ fn compare_invented<B: Engine>(plan: &Plan, counts: &mut Counts) -> Result<(), D
             }
         };
     let mut all = || -> Result<(), String> {
-        for number in 0..16 * plan.times {
+        for number in 0..40 * plan.times {
             invented::alone(&mut Random::part(plan.seed, "alone", number as u64), &mut each)?;
         }
-        for number in 0..100_000 * plan.times {
+        for number in 0..200_000 * plan.times {
             each(&invented::together(&mut Random::part(plan.seed, "together", number as u64)))?;
         }
-        for number in 0..30_000 * plan.times {
+        for number in 0..60_000 * plan.times {
             each(&invented::made_up(&mut Random::part(plan.seed, "made up", number as u64)))?;
         }
         for number in 0..3_000 * plan.times {
@@ -142,20 +144,30 @@ fn compare_invented<B: Engine>(plan: &Plan, counts: &mut Counts) -> Result<(), D
         return Err(difference);
     }
     ended.map_err(Difference::plain)?;
-    counts.add("calls in and after invented states", happened.calls as usize);
+    counts.add("calls in invented states", happened.calls as usize);
     println!("refusals in invented states, by number: {}", happened.refused());
     Ok(())
 }
 
+/// What a part needs beside this package.
+#[derive(PartialEq)]
+enum Needs {
+    Nothing,
+    Library,
+    Program,
+}
+
 type Part = fn(&Plan, &mut Counts) -> Result<(), Difference>;
 
-/// The parts, and whether each is of use without the proved library.
-const PARTS: [(&str, bool, Part); 5] = [
-    ("runs", true, compare_runs::<Library>),
-    ("invented states", false, compare_invented::<Library>),
-    ("archives", true, |plan, counts| archives::compare::<Second, Library>(plan.seed, plan.times, counts)),
-    ("script lines", true, scripts::compare_lines),
-    ("script program", false, scripts::compare_program),
+/// Runs and archives are held against the reference and the plain layout too, so they need no library.
+const PARTS: [(&str, Needs, Part); 5] = [
+    ("runs", Needs::Nothing, compare_runs::<Library>),
+    ("invented states", Needs::Library, compare_invented::<Library>),
+    ("archives", Needs::Nothing, |plan, counts| {
+        archives::compare::<Second, Library>(plan.seed, plan.times, counts)
+    }),
+    ("script lines", Needs::Nothing, scripts::compare_lines),
+    ("script program", Needs::Program, scripts::compare_program),
 ];
 
 /// Runs every part; false at the first difference.
@@ -164,14 +176,14 @@ pub fn run(plan: &Plan) -> bool {
         println!("built without the proved library; only `--alone` goes without it");
         return false;
     }
-    let others =
-        if plan.alone { "the reference alone" } else { "the proved library, the program, the reference" };
-    println!("seed {}, {} times the default, against {others}", plan.seed, plan.times);
+    let library = if plan.alone { "" } else { ", the proved library" };
+    let program = if plan.program.is_none() { "" } else { ", the proved program" };
+    println!("seed {}, {} times the default, against the reference{library}{program}", plan.seed, plan.times);
     // What breaks off is told with the script that shows it.
     std::panic::set_hook(Box::new(|_| {}));
     let mut counts = Counts::default();
-    for (name, alone, part) in PARTS {
-        if plan.alone && !alone {
+    for (name, needs, part) in PARTS {
+        if (plan.alone && needs == Needs::Library) || (plan.program.is_none() && needs == Needs::Program) {
             println!("not compared: {name}");
             continue;
         }

@@ -1,7 +1,7 @@
 //! Random runs: cores that contend for few entries, calls that are to be refused among them.
 
 use super::deeds::{Deed, Second, State};
-use crate::machine::{Answer, Called, LL, LOAD, SC, STORE};
+use crate::machine::{entry_of, Answer, Called, LL, LOAD, SC, STORE};
 use crate::random::Random;
 
 /// The sizes and habits of one run.
@@ -45,7 +45,10 @@ pub fn random_run(random: &mut Random, calls: usize) -> Vec<Deed> {
 fn onward(random: &mut Random, habits: &Habits, state: &State, core: usize) -> Deed {
     let own = &state.machine.cores[core];
     if own.busy {
-        return Deed::Step { core };
+        let holder = state.holders[entry_of(own.address, state.machine.entries)] as usize;
+        // Mostly it is the holder that moves and not the one that waits for it.
+        let moves = if own.next == 1 && holder > 0 && !random.one_in(4) { holder - 1 } else { core };
+        return Deed::Step { core: moves };
     }
     let operation = random.pick(&OPERATIONS);
     let address =
@@ -115,7 +118,7 @@ pub struct Happened {
 }
 
 impl Happened {
-    pub fn note(&mut self, called: &Called) {
+    fn note(&mut self, called: &Called) {
         self.calls += 1;
         self.accesses += called.record.is_some() as u64;
         match called.answer {
@@ -127,11 +130,13 @@ impl Happened {
         }
     }
 
-    pub fn note_all(&mut self, deeds: &[Deed]) {
+    /// Notes the calls of a run from one of its deeds on.
+    pub fn note_from(&mut self, deeds: &[Deed], first: usize) {
         let mut state = State::default();
-        for deed in deeds {
-            if let Some(called) = state.perform::<Second>(deed) {
-                self.note(&called);
+        for (at, deed) in deeds.iter().enumerate() {
+            match state.perform::<Second>(deed) {
+                Some(called) if at >= first => self.note(&called),
+                _ => {}
             }
         }
     }

@@ -269,6 +269,7 @@ fn program_differs(program: &Path, lines: &[Vec<u8>], seed: u64, in_step: bool) 
 
 /// The proved program against this package's script.
 pub fn compare_program(plan: &Plan, counts: &mut Counts) -> Result<(), Difference> {
+    let program = plan.program.as_deref().expect("a program to compare");
     let mut before = 0;
     for number in 0..300 * plan.times {
         let random = &mut Random::part(plan.seed, "program", number as u64);
@@ -276,8 +277,8 @@ pub fn compare_program(plan: &Plan, counts: &mut Counts) -> Result<(), Differenc
         let length = if in_step { random.pick(&[0, 1, 40]) } else { random.pick(&[1, 300, 5_000]) };
         let lines = if length == 0 { Vec::new() } else { random_script(random, length) };
         let seed = random.next();
-        if program_differs(&plan.program, &lines, seed, in_step).is_some() {
-            let differ = |lines: &[Vec<u8>]| program_differs(&plan.program, lines, seed, in_step);
+        if program_differs(program, &lines, seed, in_step).is_some() {
+            let differ = |lines: &[Vec<u8>]| program_differs(program, lines, seed, in_step);
             let short = shortest(&lines, |lines| differ(lines).is_some());
             let what = differ(&short).unwrap_or_else(|| "a difference that did not come back".to_string());
             return Err(Difference { what, deeds: before + lines.len(), script: shown(&short) });
