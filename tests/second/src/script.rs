@@ -135,32 +135,52 @@ fn new_of(mut text: Text) -> Option<Command> {
     text.ends(Command::New { cores, bytes, entries })
 }
 
+const DIGITS: usize = 20;
+
 /// The number of the latest line in decimal, counted up digit by digit.
 struct LineNumber {
-    digits: [u8; 20],
-    first: usize,
+    digits: [u8; DIGITS],
+    length: usize,
 }
 
 impl LineNumber {
     fn zero() -> LineNumber {
-        LineNumber { digits: [b'0'; 20], first: 19 }
+        LineNumber { digits: [b'0'; DIGITS], length: 1 }
     }
 
     #[inline]
     fn count(&mut self) {
-        let mut at = self.digits.len() - 1;
-        while self.digits[at] == b'9' {
-            self.digits[at] = b'0';
-            at -= 1;
+        for digit in self.digits[..self.length].iter_mut().rev() {
+            if *digit < b'9' {
+                *digit += 1;
+                return;
+            }
+            *digit = b'0';
         }
-        self.digits[at] += 1;
-        self.first = self.first.min(at);
+        // All were nines: a one, and as many zeros.
+        self.digits[0] = b'1';
+        self.length += 1;
     }
+}
 
-    #[inline]
-    fn text(&self) -> &[u8] {
-        &self.digits[self.first..]
+/// Where the first newline stands, eight bytes at a time: lines are short.
+#[inline]
+fn newline(text: &[u8]) -> Option<usize> {
+    const ONES: u64 = u64::MAX / 255;
+    let mut chunks = text.chunks_exact(8);
+    let mut at = 0;
+    for chunk in &mut chunks {
+        let mut bytes = [0; 8];
+        bytes.copy_from_slice(chunk);
+        // A newline becomes a zero byte, and the lowest zero byte has the lowest bit set here.
+        let apart = u64::from_le_bytes(bytes) ^ (ONES * b'\n' as u64);
+        let zeros = apart.wrapping_sub(ONES) & !apart & (ONES << 7);
+        if zeros != 0 {
+            return Some(at + zeros.trailing_zeros() as usize / 8);
+        }
+        at += 8;
     }
+    chunks.remainder().iter().position(|&byte| byte == b'\n').map(|rest| at + rest)
 }
 
 /// A script in the middle of its input.
@@ -190,7 +210,7 @@ impl Script {
 
     /// Takes the next piece of input and appends the answers to the lines that end in it.
     pub fn feed(&mut self, mut piece: &[u8], answers: &mut Vec<u8>, sink: &mut impl Sink) {
-        while let Some(length) = piece.iter().position(|&byte| byte == b'\n') {
+        while let Some(length) = newline(piece) {
             let line = &piece[..length];
             if self.begun_length == 0 {
                 self.line(line, answers, sink);
@@ -235,7 +255,7 @@ impl Script {
         if let Some(record) = &called.record {
             sink.record(record);
         }
-        write_answer(answers, self.line_number.text(), called.answer);
+        write_answer(answers, &self.line_number, called.answer);
     }
 
     #[inline]
@@ -279,47 +299,51 @@ fn refused(number: u8) -> Called {
     Called { answer: Answer::Refused(number), record: None }
 }
 
+/// Appends the beginning of a text of fixed size, which costs no call of a copying function.
+#[inline]
+fn write_first<const N: usize>(answers: &mut Vec<u8>, text: &[u8; N], length: usize) {
+    answers.extend_from_slice(text);
+    answers.truncate(answers.len() - N + length);
+}
+
 /// Appends one answer line: line number, answer number, the answer's word and its value if it has one.
 #[inline]
-fn write_answer(answers: &mut Vec<u8>, line_number: &[u8], answer: Answer) {
-    let (word, value): (&[u8], Option<u32>) = match answer {
+fn write_answer(answers: &mut Vec<u8>, line_number: &LineNumber, answer: Answer) {
+    write_first(answers, &line_number.digits, line_number.length);
+    let (word, value) = match answer {
         Answer::Refused(number) => {
-            answers.extend_from_slice(line_number);
             answers.push(b' ');
             write_decimal(answers, number as u32);
-            answers.extend_from_slice(b" refused\n");
-            return;
+            return answers.extend_from_slice(b" refused\n");
         }
-        Answer::Ready => (b" 0 ready\n", None),
-        Answer::Taken => (b" 0 taken\n", None),
-        Answer::Moved => (b" 0 moved\n", None),
-        Answer::Waits => (b" 0 waits\n", None),
-        Answer::Load(value) => (b" 0 load ", Some(value)),
-        Answer::Ll(value) => (b" 0 ll ", Some(value)),
-        Answer::Store => (b" 0 store\n", None),
-        Answer::Sc(value) => (b" 0 sc ", Some(value)),
-        Answer::Poked => (b" 0 poked\n", None),
-        Answer::Word(value) => (b" 0 word ", Some(value)),
+        Answer::Ready => return answers.extend_from_slice(b" 0 ready\n"),
+        Answer::Taken => return answers.extend_from_slice(b" 0 taken\n"),
+        Answer::Moved => return answers.extend_from_slice(b" 0 moved\n"),
+        Answer::Waits => return answers.extend_from_slice(b" 0 waits\n"),
+        Answer::Store => return answers.extend_from_slice(b" 0 store\n"),
+        Answer::Poked => return answers.extend_from_slice(b" 0 poked\n"),
+        Answer::Load(value) => (b" 0 load ", value),
+        Answer::Word(value) => (b" 0 word ", value),
+        Answer::Ll(value) => (b" 0 ll \0\0", value),
+        Answer::Sc(value) => (b" 0 sc \0\0", value),
     };
-    answers.extend_from_slice(line_number);
-    answers.extend_from_slice(word);
-    if let Some(value) = value {
-        write_decimal(answers, value);
-        answers.push(b'\n');
-    }
+    let padding = (word[7] == 0) as usize * 2;
+    write_first(answers, word, word.len() - padding);
+    write_decimal(answers, value);
+    answers.push(b'\n');
 }
 
 #[inline]
-pub fn write_decimal(text: &mut Vec<u8>, mut value: u32) {
+fn write_decimal(text: &mut Vec<u8>, mut value: u32) {
+    if value < 10 {
+        return text.push(b'0' + value as u8);
+    }
     let mut digits = [0; 10];
     let mut at = digits.len();
-    loop {
+    while value > 0 {
         at -= 1;
         digits[at] = b'0' + (value % 10) as u8;
         value /= 10;
-        if value == 0 {
-            break;
-        }
     }
     text.extend_from_slice(&digits[at..]);
 }

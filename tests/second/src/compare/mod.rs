@@ -59,6 +59,10 @@ impl Counts {
             None => self.0.push((name, more as u64)),
         }
     }
+
+    fn of(&self, name: &str) -> u64 {
+        self.0.iter().find(|(old, _)| *old == name).map_or(0, |(_, count)| *count)
+    }
 }
 
 /// A panic of either side is a difference like any other.
