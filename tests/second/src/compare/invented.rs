@@ -3,6 +3,7 @@
 
 use super::deeds::{Deed, Edit, Field, FIELDS};
 use super::runs::random_run;
+use super::Difference;
 use crate::machine::{entry_of, CORES, ENTRY_LIMIT, MEMORY_LIMIT};
 use crate::random::Random;
 
@@ -59,7 +60,10 @@ const ENTRIES: [usize; 14] =
 const MARKS: [u8; 12] = [0, 1, 2, 3, 4, 5, 6, 7, 8, 9, 128, 255];
 
 /// One core's field set alone to every value, in the state that a run leads to.
-pub fn alone(random: &mut Random, mut each: impl FnMut(&[Deed]) -> Result<(), String>) -> Result<(), String> {
+pub fn alone(
+    random: &mut Random,
+    each: &mut impl FnMut(&[Deed]) -> Result<(), Difference>,
+) -> Result<(), Difference> {
     let length = 2 + random.below(60);
     let run = random_run(random, length);
     let (count, bytes, entries) = sizes_of(&run);

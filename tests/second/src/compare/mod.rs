@@ -4,6 +4,7 @@
 pub mod archives;
 pub mod deeds;
 mod invented;
+mod programs;
 mod reference;
 mod runs;
 mod scripts;
@@ -115,39 +116,27 @@ fn compare_runs<B: Engine>(plan: &Plan, counts: &mut Counts) -> Result<(), Diffe
 /// Invented states and tables, wrong lengths and starts of any kind.
 fn compare_invented<B: Engine>(plan: &Plan, counts: &mut Counts) -> Result<(), Difference> {
     let mut happened = Happened::default();
-    let mut found = None;
-    let mut each =
-        |deeds: &[Deed]| match caught(|| first_difference::<Second, B>(deeds).map(|(_, what)| what)) {
-            None => {
-                let edited = deeds.iter().position(|deed| matches!(deed, Deed::Edit(_)));
-                happened.note_from(deeds, edited.unwrap_or(0));
-                Ok(())
-            }
-            Some(what) => {
-                found = Some(shown(deeds, happened.calls as usize, first_difference::<Second, B>));
-                Err(what)
-            }
-        };
-    let mut all = || -> Result<(), String> {
-        for number in 0..40 * plan.times {
-            invented::alone(&mut Random::part(plan.seed, "alone", number as u64), &mut each)?;
+    let each = &mut |deeds: &[Deed]| {
+        if caught(|| first_difference::<Second, B>(deeds).map(|(_, what)| what)).is_some() {
+            return Err(shown(deeds, happened.calls as usize, first_difference::<Second, B>));
         }
-        for number in 0..200_000 * plan.times {
-            each(&invented::together(&mut Random::part(plan.seed, "together", number as u64)))?;
-        }
-        for number in 0..60_000 * plan.times {
-            each(&invented::made_up(&mut Random::part(plan.seed, "made up", number as u64)))?;
-        }
-        for number in 0..3_000 * plan.times {
-            each(&invented::any_start(&mut Random::part(plan.seed, "start", number as u64)))?;
-        }
+        let edited = deeds.iter().position(|deed| matches!(deed, Deed::Edit(_)));
+        happened.note_from(deeds, edited.unwrap_or(0));
         Ok(())
     };
-    let ended = all();
-    if let Some(difference) = found {
-        return Err(difference);
+    let random = |name, number| Random::part(plan.seed, name, number as u64);
+    for number in 0..40 * plan.times {
+        invented::alone(&mut random("alone", number), each)?;
     }
-    ended.map_err(Difference::plain)?;
+    for number in 0..200_000 * plan.times {
+        each(&invented::together(&mut random("together", number)))?;
+    }
+    for number in 0..60_000 * plan.times {
+        each(&invented::made_up(&mut random("made up", number)))?;
+    }
+    for number in 0..3_000 * plan.times {
+        each(&invented::any_start(&mut random("start", number)))?;
+    }
     counts.add("calls in invented states", happened.calls as usize);
     println!("refusals in invented states, by number: {}", happened.refused());
     Ok(())
@@ -171,7 +160,7 @@ const PARTS: [(&str, Needs, Part); 5] = [
         archives::compare::<Second, Library>(plan.seed, plan.times, counts)
     }),
     ("script lines", Needs::Nothing, scripts::compare_lines),
-    ("script program", Needs::Program, scripts::compare_program),
+    ("script program", Needs::Program, programs::compare_program),
 ];
 
 /// Runs every part; false at the first difference.

@@ -1,20 +1,13 @@
-//! Scripts: the text of a run against its calls, and generated scripts, a share of them malformed,
-//! through the proved program with the input cut at random places.
+//! Scripts: generated ones, a share of them malformed, and this package's answers to them: the text of a
+//! run against its calls, and input in pieces against the same input whole.
 
 use super::deeds::{Deed, Second, State};
 use super::runs::random_run;
 use super::shrink::shortest;
 use super::{caught, Counts, Difference, Plan};
-use crate::archive::{Writer, Wrote, BLOCK};
-use crate::machine::{Answer, Record};
+use crate::machine::Answer;
 use crate::random::Random;
-use crate::script::{Script, Sink, Unkept};
-use std::io::{self, Read as _, Write as _};
-use std::path::{Path, PathBuf};
-use std::process::{Command, Stdio};
-use std::sync::mpsc::{channel, Receiver};
-use std::thread;
-use std::time::Duration;
+use crate::script::{Script, Unkept};
 
 /// An answer in words, by the standard formatter.
 fn words(answer: Answer) -> String {
@@ -34,7 +27,7 @@ fn words(answer: Answer) -> String {
 }
 
 /// The answers of this package's script, with the input in pieces of these sizes, then the rest.
-fn answers(input: &[u8], sizes: &[usize]) -> Vec<u8> {
+pub fn answers(input: &[u8], sizes: &[usize]) -> Vec<u8> {
     let mut script = Script::start();
     let mut answers = Vec::new();
     let mut rest = input;
@@ -71,7 +64,7 @@ fn lines_differ(deeds: &[Deed]) -> Option<String> {
     first_line_apart(&answers(input.as_bytes(), &[]), expected.as_bytes())
 }
 
-fn first_line_apart(left: &[u8], right: &[u8]) -> Option<String> {
+pub fn first_line_apart(left: &[u8], right: &[u8]) -> Option<String> {
     if left == right {
         return None;
     }
@@ -109,7 +102,7 @@ pub fn compare_lines(plan: &Plan, counts: &mut Counts) -> Result<(), Difference>
 }
 
 /// Sizes of pieces that make up so many bytes: of one byte, of a few, of many.
-fn random_sizes(random: &mut Random, mut length: usize) -> Vec<usize> {
+pub fn random_sizes(random: &mut Random, mut length: usize) -> Vec<usize> {
     let largest = random.pick(&[1, 3, 20, 200, 5_000]);
     let mut sizes = Vec::new();
     while length > 0 {
@@ -121,7 +114,7 @@ fn random_sizes(random: &mut Random, mut length: usize) -> Vec<usize> {
 }
 
 /// A script of about so many lines, each with its newline but for the last, perhaps.
-fn random_script(random: &mut Random, length: usize) -> Vec<Vec<u8>> {
+pub fn random_script(random: &mut Random, length: usize) -> Vec<Vec<u8>> {
     let mut lines: Vec<Vec<u8>> = Vec::new();
     let malformed = random.pick(&[2, 8, 40, 1_000_000]);
     while lines.len() < length {
@@ -180,208 +173,6 @@ fn spoilt(random: &mut Random, mut line: Vec<u8>) -> Vec<u8> {
 }
 
 /// The first lines of a script that shows a difference, bytes that are no text written as escapes.
-fn shown(lines: &[Vec<u8>]) -> String {
+pub fn shown(lines: &[Vec<u8>]) -> String {
     lines.iter().map(|line| line.escape_ascii().to_string().replace("\\n", "\n")).collect()
-}
-
-/// What the program's standard output has brought so far.
-struct Output {
-    pieces: Receiver<Vec<u8>>,
-    all: Vec<u8>,
-}
-
-const PATIENCE: Duration = Duration::from_secs(5);
-
-impl Output {
-    /// Waits until so many bytes have come; false if they do not.
-    fn reach(&mut self, length: usize) -> bool {
-        while self.all.len() < length {
-            match self.pieces.recv_timeout(PATIENCE) {
-                Ok(piece) => self.all.extend_from_slice(&piece),
-                Err(_) => return false,
-            }
-        }
-        true
-    }
-}
-
-/// Runs the program on an input in pieces. With `in_step` each piece waits for the answers to the lines
-/// before it, so that the program reads the pieces as they are cut; true if they all came in time.
-fn program_answers(
-    program: &mut Command,
-    input: &[u8],
-    sizes: &[usize],
-    in_step: bool,
-) -> io::Result<(Vec<u8>, bool)> {
-    let mut child = program.stdin(Stdio::piped()).stdout(Stdio::piped()).spawn()?;
-    let mut stdin = child.stdin.take().expect("a pipe");
-    let mut stdout = child.stdout.take().expect("a pipe");
-    let (sender, pieces) = channel();
-    let reading = thread::spawn(move || {
-        let mut piece = [0; 1 << 16];
-        while let Ok(length @ 1..) = stdout.read(&mut piece) {
-            if sender.send(piece[..length].to_vec()).is_err() {
-                break;
-            }
-        }
-    });
-    let mut output = Output { pieces, all: Vec::new() };
-    let mut own = Script::start();
-    let mut expected = Vec::new();
-    let mut in_time = true;
-    let mut rest = input;
-    for &size in sizes {
-        let (piece, later) = rest.split_at(size);
-        // A program that ended early is seen by its answers.
-        if stdin.write_all(piece).is_err() {
-            break;
-        }
-        rest = later;
-        if in_step && in_time {
-            own.feed(piece, &mut expected, &mut Unkept);
-            in_time = output.reach(expected.len());
-        }
-    }
-    drop(stdin);
-    while let Ok(piece) = output.pieces.recv() {
-        output.all.extend_from_slice(&piece);
-    }
-    reading.join().expect("the reading thread ends");
-    let ended = child.wait()?;
-    if !ended.success() {
-        output.all.extend_from_slice(format!("ended with {ended}\n").as_bytes());
-    }
-    Ok((output.all, in_time))
-}
-
-/// The archive of each run of a script, as this package's writer puts it out.
-#[derive(Default)]
-struct RunArchives {
-    writer: Writer,
-    archives: Vec<Vec<u8>>,
-}
-
-impl RunArchives {
-    fn put(&mut self, wrote: Wrote, block: &[u8; BLOCK]) {
-        if let (Wrote::Block, Some(archive)) = (wrote, self.archives.last_mut()) {
-            archive.extend_from_slice(block);
-        }
-    }
-
-    fn end(&mut self) {
-        let mut block = [0; BLOCK];
-        let wrote = self.writer.close(&mut block);
-        self.put(wrote, &block);
-    }
-}
-
-impl Sink for RunArchives {
-    fn begin(&mut self) {
-        self.end();
-        self.writer = Writer::default();
-        self.archives.push(Vec::new());
-    }
-
-    fn record(&mut self, record: &Record) {
-        let mut block = [0; BLOCK];
-        let wrote = self.writer.add(record, &mut block);
-        self.put(wrote, &block);
-    }
-}
-
-/// A folder of its own for the program's archive files, removed at the end.
-struct Folder(PathBuf);
-
-impl Folder {
-    fn make() -> io::Result<Folder> {
-        let path = std::env::temp_dir().join(format!("second-compare-{}", std::process::id()));
-        std::fs::create_dir_all(&path)?;
-        Ok(Folder(path))
-    }
-}
-
-impl Drop for Folder {
-    fn drop(&mut self) {
-        // What cannot be removed harms no comparison.
-        let _ = std::fs::remove_dir_all(&self.0);
-    }
-}
-
-/// Whether the program's archive files are those of the script's runs; a run without a record may have
-/// no file or an empty one.
-fn archives_differ(program: &Path, lines: &[Vec<u8>]) -> Option<String> {
-    let input = lines.concat();
-    let run = || -> io::Result<(Vec<u8>, Vec<Vec<u8>>)> {
-        let folder = Folder::make()?;
-        let first = folder.0.join("run");
-        let (theirs, _) =
-            program_answers(Command::new(program).arg("archive").arg(&first), &input, &[input.len()], false)?;
-        let files =
-            (1..=lines.len())
-                .map(|run| if run == 1 { first.clone() } else { folder.0.join(format!("run.{run}")) });
-        Ok((theirs, files.map(|file| std::fs::read(file).unwrap_or_default()).collect()))
-    };
-    let (theirs, files) = match run() {
-        Ok(outcome) => outcome,
-        Err(error) => return Some(format!("{}: {error}", program.display())),
-    };
-    let mut own = RunArchives::default();
-    let mut script = Script::start();
-    let mut answers = Vec::new();
-    script.feed(&input, &mut answers, &mut own);
-    script.finish(&mut answers, &mut own);
-    own.end();
-    let apart = first_line_apart(&theirs, &answers);
-    own.archives.resize(lines.len(), Vec::new());
-    let file = own.archives.iter().zip(&files).position(|(one, two)| one != two);
-    apart.or_else(|| file.map(|file| format!("the archive of run {} differs", file + 1)))
-}
-
-/// What differs between the program and this package on one script.
-fn program_differs(program: &Path, lines: &[Vec<u8>], seed: u64, in_step: bool) -> Option<String> {
-    let input = lines.concat();
-    let sizes = random_sizes(&mut Random::new(seed), input.len());
-    let (theirs, in_time) = match program_answers(&mut Command::new(program), &input, &sizes, in_step) {
-        Ok(outcome) => outcome,
-        Err(error) => return Some(format!("{}: {error}", program.display())),
-    };
-    if let Some(what) = first_line_apart(&theirs, &answers(&input, &[])) {
-        return Some(what);
-    }
-    (!in_time).then(|| "answers to the lines read so far did not come before more input".to_string())
-}
-
-/// The proved program against this package's script.
-pub fn compare_program(plan: &Plan, counts: &mut Counts) -> Result<(), Difference> {
-    let program = plan.program.as_deref().expect("a program to compare");
-    for number in 0..300 * plan.times {
-        let random = &mut Random::part(plan.seed, "program", number as u64);
-        let in_step = number % 2 == 1;
-        let length = if in_step { random.pick(&[0, 1, 40]) } else { random.pick(&[1, 300, 5_000]) };
-        let lines = if length == 0 { Vec::new() } else { random_script(random, length) };
-        let seed = random.next();
-        compare_script(&lines, counts, |lines| program_differs(program, lines, seed, in_step))?;
-        counts.add("  scripts whose pieces waited for their answers", in_step as usize);
-    }
-    for number in 0..40 * plan.times {
-        let lines = random_script(&mut Random::part(plan.seed, "archived", number as u64), 400);
-        compare_script(&lines, counts, |lines| archives_differ(program, lines))?;
-        counts.add("  scripts whose archive files were compared", 1);
-    }
-    Ok(())
-}
-
-fn compare_script(
-    lines: &[Vec<u8>],
-    counts: &mut Counts,
-    differ: impl Fn(&[Vec<u8>]) -> Option<String>,
-) -> Result<(), Difference> {
-    counts.add("scripts through the program", 1);
-    counts.add("  lines in them", lines.len());
-    if differ(lines).is_none() {
-        return Ok(());
-    }
-    let short = shortest(lines, |lines| differ(lines).is_some());
-    let what = differ(&short).unwrap_or_else(|| "a difference that did not come back".to_string());
-    Err(Difference { what, deeds: counts.of("  lines in them") as usize, script: shown(&short) })
 }
