@@ -357,18 +357,18 @@ fn damage_block<A: Archivist, B: Archivist>(
     let length = random.pick(&[1, 2, 15, 30, 31, 31]);
     let records: Vec<Record> = (0..length).map(|_| random_record(random)).collect();
     let good = encoded(number, &records);
-    for byte in 0..BLOCK {
+    for (byte, &old) in good.iter().enumerate() {
         let values: Vec<u8> = if every_value {
             (0..=255).collect()
         } else {
-            vec![good[byte].wrapping_add(1), good[byte] ^ 1 << random.below(8), random.word() as u8, 0, 255]
+            vec![old.wrapping_add(1), old ^ 1 << random.below(8), random.word() as u8, 0, 255]
         };
         for value in values {
             for sealed in [false, true] {
                 let damage = Damage { byte, value, sealed, expected: number, after_short: false, lent: 512 };
                 let refusal = compare_damage::<A, B>(number, &records, &damage)?;
                 counts.add("blocks damaged in one byte and read", 1);
-                if !sealed && value != good[byte] && refusal != Some(12) {
+                if !sealed && value != old && refusal != Some(12) {
                     return Err(Difference::plain(format!(
                         "{damage:?} of {records:?} is {refusal:?} and not 12"
                     )));

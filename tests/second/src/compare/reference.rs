@@ -33,7 +33,7 @@ pub fn first_departure<E: Engine>(deeds: &[Deed]) -> Option<(usize, String)> {
 
 impl Beside {
     fn follow(&mut self, deed: &Deed, called: &Called, state: &State) -> Result<(), String> {
-        if let Answer::Refused(number @ (4 | 5 | 6)) = called.answer {
+        if let Answer::Refused(number @ 4..=6) = called.answer {
             return Err(format!("{number} in a run from a fresh machine"));
         }
         self.access(deed, called)?;
