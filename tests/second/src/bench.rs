@@ -394,7 +394,7 @@ pub fn run(program: &Path) -> io::Result<()> {
     archive_rows().iter().for_each(print);
     let row = script_row(program)?;
     print(&row);
-    println!("million script lines a second: second {:.1}, proved {:.1}", 1e3 / row.ours, 1e3 / row.theirs);
+    println!("{:<28} {:>9.1} {:>9.1}", "million script lines a second", 1e3 / row.ours, 1e3 / row.theirs);
     Ok(())
 }
 

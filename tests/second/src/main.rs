@@ -20,7 +20,7 @@ use std::process::ExitCode;
 const USAGE: &str = "usage:
   second script [archive FILE | records FILE]
   second compare [--long] [--seed N] [--program PATH] [--no-program] [--alone]
-  second bench [growth]
+  second bench [growth] [--program PATH]
 ";
 
 /// Where the proved program stands after a build.
@@ -39,7 +39,9 @@ fn main() -> ExitCode {
             None => return usage(),
         },
         ["bench"] => bench::run(PROGRAM.as_ref()),
+        ["bench", "--program", program] => bench::run(program.as_ref()),
         ["bench", "growth"] => bench::growth(PROGRAM.as_ref()),
+        ["bench", "growth", "--program", program] => bench::growth(program.as_ref()),
         _ => return usage(),
     };
     match result {

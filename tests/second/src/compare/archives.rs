@@ -452,7 +452,7 @@ fn mangled_archive<A: Archivist, B: Archivist>(
     Err(Difference { what: differ(&short).unwrap_or_default(), deeds: blocks.len(), script })
 }
 
-fn hexadecimal(bytes: &[u8]) -> String {
+pub fn hexadecimal(bytes: &[u8]) -> String {
     bytes.iter().map(|byte| format!("{byte:02x}")).collect()
 }
 

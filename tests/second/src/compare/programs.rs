@@ -1,11 +1,13 @@
 //! The proved program against this package's script: the same input, cut at random places, and the files
 //! that it puts runs into.
 
+use super::archives::hexadecimal;
 use super::scripts::{answers, first_line_apart, random_script, random_sizes, shown};
 use super::shrink::shortest;
 use super::{Counts, Difference, Plan};
 use crate::archive::{Writer, Wrote, BLOCK};
 use crate::machine::Record;
+use crate::program::records_text;
 use crate::random::Random;
 use crate::script::{Script, Sink, Unkept};
 use std::io::{self, Read as _, Write as _};
@@ -132,6 +134,17 @@ impl Sink for RunArchives {
     }
 }
 
+/// This package's answers to a script, and the archives of its runs.
+fn own_archives(input: &[u8]) -> (Vec<u8>, Vec<Vec<u8>>) {
+    let mut own = RunArchives::default();
+    let mut script = Script::start();
+    let mut answers = Vec::new();
+    script.feed(input, &mut answers, &mut own);
+    script.finish(&mut answers, &mut own);
+    own.end();
+    (answers, own.archives)
+}
+
 /// A folder of its own for the program's archive files, removed at the end.
 struct Folder(PathBuf);
 
@@ -172,16 +185,61 @@ fn archives_differ(program: &Path, lines: &[Vec<u8>]) -> Option<String> {
         Ok(outcome) => outcome,
         Err(error) => return Some(format!("{}: {error}", program.display())),
     };
-    let mut own = RunArchives::default();
-    let mut script = Script::start();
-    let mut answers = Vec::new();
-    script.feed(&input, &mut answers, &mut own);
-    script.finish(&mut answers, &mut own);
-    own.end();
+    let (answers, mut archives) = own_archives(&input);
     let apart = first_line_apart(&theirs, &answers);
-    own.archives.resize(lines.len(), Vec::new());
-    let file = own.archives.iter().zip(&files).position(|(one, two)| one != two);
+    archives.resize(lines.len(), Vec::new());
+    let file = archives.iter().zip(&files).position(|(one, two)| one != two);
     apart.or_else(|| file.map(|file| format!("the archive of run {} differs", file + 1)))
+}
+
+/// Whether a file that stands in the archive's place stays as it is, and the answers go on.
+fn old_file_is_harmed(program: &Path) -> Option<String> {
+    let input = b"new 1 64\npoke 4 7\nshow 4\n";
+    let run = || -> io::Result<(Vec<u8>, Vec<u8>)> {
+        let folder = Folder::make()?;
+        let file = folder.0.join("run");
+        std::fs::write(&file, b"old")?;
+        let mut command = Command::new(program);
+        command.arg("archive").arg(&file).stderr(Stdio::null());
+        let (theirs, _) = Running::answers(&mut command, input, &[input.len()], false)?;
+        Ok((theirs, std::fs::read(&file)?))
+    };
+    match run() {
+        Ok((_, file)) if file != b"old" => Some("an old file was written over".to_string()),
+        Ok((theirs, _)) => first_line_apart(&theirs, &answers(input, &[])),
+        Err(error) => Some(format!("{}: {error}", program.display())),
+    }
+}
+
+/// An archive of a script's run with something done to it, or nothing.
+fn random_archive(random: &mut Random) -> Vec<u8> {
+    let lines = random_script(random, 400);
+    let (_, archives) = own_archives(&lines.concat());
+    let mut archive = archives.into_iter().max_by_key(Vec::len).unwrap_or_default();
+    let length = archive.len();
+    match random.below(6) {
+        0 if length > 0 => archive[random.below(length)] ^= 1 << random.below(8),
+        1 => archive.truncate(random.below(length + 1)),
+        2 => archive.extend_from_within(..length.min(BLOCK)),
+        3 if length > BLOCK => drop(archive.drain(..BLOCK)),
+        _ => {}
+    }
+    archive
+}
+
+/// Whether the program lists an archive's records, and its refusal, as this package does.
+fn listings_differ(program: &Path, archive: &[u8]) -> Option<String> {
+    let run = || -> io::Result<Vec<u8>> {
+        let folder = Folder::make()?;
+        let file = folder.0.join("archive");
+        std::fs::write(&file, archive)?;
+        let (theirs, _) = Running::answers(Command::new(program).arg("records").arg(&file), &[], &[], false)?;
+        Ok(theirs)
+    };
+    match run() {
+        Ok(theirs) => first_line_apart(&theirs, records_text(archive).as_bytes()),
+        Err(error) => Some(format!("{}: {error}", program.display())),
+    }
 }
 
 /// What differs between the program and this package on one script.
@@ -214,6 +272,16 @@ pub fn compare_program(plan: &Plan, counts: &mut Counts) -> Result<(), Differenc
         let lines = random_script(&mut Random::part(plan.seed, "archived", number as u64), 400);
         compare_script(&lines, counts, |lines| archives_differ(program, lines))?;
         counts.add("  scripts whose archive files were compared", 1);
+    }
+    old_file_is_harmed(program).map_or(Ok(()), |what| Err(Difference::plain(what)))?;
+    for number in 0..100 * plan.times {
+        let archive = random_archive(&mut Random::part(plan.seed, "listed", number as u64));
+        counts.add("archives listed by the program", 1);
+        if let Some(what) = listings_differ(program, &archive) {
+            let script =
+                format!("records of an archive of {} bytes\n{}\n", archive.len(), hexadecimal(&archive));
+            return Err(Difference { what, deeds: number, script });
+        }
     }
     Ok(())
 }
