@@ -1,7 +1,9 @@
 //! The machine: cores, memory, owner marks and locks, and the calls that move them.
 //!
 //! Memory, owner marks and lock holders are lent to each call; the machine itself is a plain struct
-//! that a caller may fill with anything. Every call therefore looks at the whole state first.
+//! that a caller may fill with anything. Every call therefore looks at the whole state first (ranges.rs).
+
+use crate::ranges::{entries_fit, memory_fits};
 
 pub const CORES: usize = 8;
 pub const MEMORY_LIMIT: usize = 65_536;
@@ -153,100 +155,6 @@ pub fn write_word(memory: &mut [u8], address: u32, value: u32) {
     memory[at..at + 4].copy_from_slice(&value.to_le_bytes());
 }
 
-#[inline]
-fn memory_fits(bytes: usize) -> bool {
-    (bytes % 4 == 0) & (bytes >= 4) & (bytes <= MEMORY_LIMIT)
-}
-
-#[inline]
-fn entries_fit(entries: usize) -> bool {
-    entries.is_power_of_two() & (entries <= ENTRY_LIMIT)
-}
-
-/// An address that is a multiple of 4 and below the largest memory has none of these bits.
-const NO_ADDRESS: u32 = !(MEMORY_LIMIT as u32 - 4);
-
-/// For each shape of a core, the bits that must be 0 in its address, link, value and what it read.
-const MUST_BE_ZERO: [[u32; 4]; SHAPES] = must_be_zero();
-const SHAPES: usize = 512;
-
-/// For each shape, whether no core can have it.
-const NEVER: [bool; SHAPES] = never();
-
-/// A core's shape: next step and operation, each below 8 or the core is out of range, and three flags.
-#[inline]
-fn shape(core: &Core) -> usize {
-    let numbers = core.next as usize | (core.operation as usize) << 3;
-    let flags = (core.busy as usize) << 6 | (core.passed as usize) << 7 | (core.linked as usize) << 8;
-    (numbers | flags) % SHAPES
-}
-
-const fn must_be_zero() -> [[u32; 4]; SHAPES] {
-    let mut table = [[0; 4]; SHAPES];
-    let mut number = 0;
-    while number < SHAPES {
-        let (next, operation) = (number & 7, (number >> 3 & 7) as u8);
-        let (busy, linked) = (number >> 6 & 1 == 1, number >> 8 & 1 == 1);
-        table[number] = [
-            if busy { NO_ADDRESS } else { !0 },
-            if linked { NO_ADDRESS } else { !0 },
-            if operation == STORE || operation == SC { 0 } else { !0 },
-            if operation == LL && next == 4 { 0 } else { !0 },
-        ];
-        number += 1;
-    }
-    table
-}
-
-const fn never() -> [bool; SHAPES] {
-    let mut table = [true; SHAPES];
-    let mut number = 0;
-    while number < SHAPES {
-        let (next, operation) = (number & 7, (number >> 3 & 7) as u8);
-        let (busy, passed) = (number >> 6 & 1 == 1, number >> 7 & 1 == 1);
-        let occurs = match operation {
-            0 => !busy && next == 0,
-            LOAD => busy && next == 1,
-            LL | STORE | SC => busy && next >= 1 && next <= 4,
-            _ => false,
-        };
-        table[number] = !occurs || (passed && !(operation == SC && next >= 3));
-        number += 1;
-    }
-    table
-}
-
-/// What is wrong in the cores looked at so far, gathered without a branch, four fields side by side.
-#[derive(Default)]
-struct Wrong {
-    fields: [u32; 4],
-    outside: [u32; 4],
-    shapes: bool,
-    numbers: u8,
-}
-
-impl Wrong {
-    #[inline]
-    fn look_at(&mut self, core: &Core, last: u32) {
-        let shape = shape(core);
-        let fields = [core.address, core.link, core.value, core.read];
-        for (at, field) in fields.into_iter().enumerate() {
-            self.fields[at] |= field & MUST_BE_ZERO[shape][at];
-            // The highest bit tells an address past the last one.
-            self.outside[at] |= last.wrapping_sub(field);
-        }
-        self.shapes |= NEVER[shape];
-        self.numbers |= core.operation | core.next;
-    }
-
-    #[inline]
-    fn nothing(&self) -> bool {
-        let [a, b, c, d] = self.fields;
-        let outside = (self.outside[0] | self.outside[1]) >> 31;
-        ((a | b | c | d | outside) == 0) & !self.shapes & (self.numbers < 8)
-    }
-}
-
 impl Core {
     /// The core after it was given an operation; its link stays.
     #[inline]
@@ -371,19 +279,6 @@ impl Machine {
         } else {
             None
         }
-    }
-
-    /// Whether the state is in its ranges: the sizes, and all eight cores in one pass.
-    #[inline]
-    fn in_ranges(&self) -> bool {
-        let sizes =
-            memory_fits(self.bytes) & entries_fit(self.entries) & (self.count >= 1) & (self.count <= CORES);
-        let (counted, beyond) = self.cores.split_at(self.count.min(CORES));
-        let mut wrong = Wrong::default();
-        for core in counted {
-            wrong.look_at(core, (self.bytes as u32).wrapping_sub(4));
-        }
-        sizes & wrong.nothing() & beyond.iter().all(|core| *core == Core::default())
     }
 }
 

@@ -11,6 +11,7 @@ mod program;
 #[cfg(proved)]
 mod proved;
 mod random;
+mod ranges;
 mod script;
 #[cfg(test)]
 mod tests;

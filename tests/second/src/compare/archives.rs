@@ -146,7 +146,10 @@ fn compare_writers<A: Archivist, B: Archivist>(
     counts.add("calls of writers", calls.count());
     let differ = |deeds: &[Deed]| caught(|| writers_differ::<A, B>(deeds));
     match differ(deeds) {
-        None => Ok(()),
+        None => {
+            note_refusals::<A>(deeds, counts);
+            Ok(())
+        }
         Some(_) => {
             let short = shortest(deeds, |deeds| differ(deeds).is_some());
             let mut script = String::new();
@@ -154,6 +157,15 @@ fn compare_writers<A: Archivist, B: Archivist>(
                 writeln!(script, "{deed:?}").expect("text");
             }
             Err(Difference { what: differ(&short).unwrap_or_default(), deeds: deeds.len(), script })
+        }
+    }
+}
+
+fn note_refusals<A: Archivist>(deeds: &[Deed], counts: &mut Counts) {
+    let (mut writer, mut block) = (A::begin(), Vec::new());
+    for deed in deeds {
+        if let Some(Wrote::Refused(number)) = perform::<A>(&mut writer, &mut block, deed) {
+            counts.refused("of writers", number);
         }
     }
 }
@@ -335,12 +347,17 @@ fn compare_damage<A: Archivist, B: Archivist>(
     number: u32,
     records: &[Record],
     damage: &Damage,
+    counts: &mut Counts,
 ) -> Result<Option<u8>, Difference> {
     let differ =
         |records: &[Record]| caught(|| readers_differ::<A, B>(&damaged(number, records, damage), damage));
     let block = damaged(number, records, damage);
     if differ(records).is_none() {
-        return Ok(A::refusal(&block, damage.expected, damage.after_short));
+        let refusal = A::refusal(&block, damage.expected, damage.after_short);
+        if let Some(number) = refusal {
+            counts.refused("of blocks", number);
+        }
+        return Ok(refusal);
     }
     let short = shortest(records, |records| differ(records).is_some());
     let script = format!("block {number} of {short:?}\n{damage:?}\n");
@@ -366,7 +383,7 @@ fn damage_block<A: Archivist, B: Archivist>(
         for value in values {
             for sealed in [false, true] {
                 let damage = Damage { byte, value, sealed, expected: number, after_short: false, lent: 512 };
-                let refusal = compare_damage::<A, B>(number, &records, &damage)?;
+                let refusal = compare_damage::<A, B>(number, &records, &damage, counts)?;
                 counts.add("blocks damaged in one byte and read", 1);
                 if !sealed && value != old && refusal != Some(12) {
                     return Err(Difference::plain(format!(
@@ -398,12 +415,17 @@ fn misplaced_block<A: Archivist, B: Archivist>(
         lent: random.pick(&LENT),
     };
     counts.add("blocks misplaced and read", 1);
-    compare_damage::<A, B>(number, &records, &damage).map(|_| ())
+    compare_damage::<A, B>(number, &records, &damage, counts).map(|_| ())
+}
+
+fn cut_archive(blocks: &[[u8; BLOCK]], cut: usize) -> Vec<u8> {
+    let mut archive = blocks.concat();
+    archive.truncate(archive.len().saturating_sub(cut));
+    archive
 }
 
 fn archives_differ<A: Archivist, B: Archivist>(blocks: &[[u8; BLOCK]], cut: usize) -> Option<String> {
-    let mut archive = blocks.concat();
-    archive.truncate(archive.len().saturating_sub(cut));
+    let archive = cut_archive(blocks, cut);
     let (left, right) = (A::whole(&archive), B::whole(&archive));
     if left != right {
         return Some(format!("the whole archive is {left:?} and {right:?}"));
@@ -442,6 +464,11 @@ fn mangled_archive<A: Archivist, B: Archivist>(
     counts.add("whole archives mangled and read", 1);
     let differ = |blocks: &[[u8; BLOCK]]| caught(|| archives_differ::<A, B>(blocks, cut));
     if differ(&blocks).is_none() {
+        match A::whole(&cut_archive(&blocks, cut)) {
+            Whole::RefusedLength => counts.refused("of whole archives", 16),
+            Whole::RefusedAt { number, .. } => counts.refused("of whole archives", number),
+            Whole::Holds(_) => counts.add("  that were good all the same", 1),
+        }
         return Ok(());
     }
     let short = shortest(&blocks, |blocks| differ(blocks).is_some());

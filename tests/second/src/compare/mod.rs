@@ -51,18 +51,41 @@ impl Difference {
 
 /// What was compared, in the order in which it was first counted.
 #[derive(Default)]
-pub struct Counts(Vec<(&'static str, u64)>);
+pub struct Counts {
+    named: Vec<(&'static str, u64)>,
+    refusals: Vec<(&'static str, [u64; 19])>,
+}
 
 impl Counts {
     pub fn add(&mut self, name: &'static str, more: usize) {
-        match self.0.iter_mut().find(|(old, _)| *old == name) {
+        match self.named.iter_mut().find(|(old, _)| *old == name) {
             Some((_, count)) => *count += more as u64,
-            None => self.0.push((name, more as u64)),
+            None => self.named.push((name, more as u64)),
         }
     }
 
     fn of(&self, name: &str) -> u64 {
-        self.0.iter().find(|(old, _)| *old == name).map_or(0, |(_, count)| *count)
+        self.named.iter().find(|(old, _)| *old == name).map_or(0, |(_, count)| *count)
+    }
+
+    /// Notes a refusal of one kind of call.
+    pub fn refused(&mut self, name: &'static str, number: u8) {
+        if !self.refusals.iter().any(|(old, _)| *old == name) {
+            self.refusals.push((name, [0; 19]));
+        }
+        let (_, numbers) = self.refusals.iter_mut().find(|(old, _)| *old == name).expect("pushed above");
+        numbers[number as usize] += 1;
+    }
+
+    fn print(&self) {
+        for (name, count) in &self.named {
+            println!("{count:>12} {name}");
+        }
+        for (name, numbers) in &self.refusals {
+            let met = (0..).zip(numbers).filter(|(_, &times)| times > 0);
+            let met: Vec<String> = met.map(|(number, times)| format!("{number}: {times}")).collect();
+            println!("refusals {name}, by number: {}", met.join(", "));
+        }
     }
 }
 
@@ -90,7 +113,7 @@ fn shown(deeds: &[Deed], before: usize, find: impl Fn(&[Deed]) -> Option<(usize,
 
 /// Long random runs, each against the reference and against the other engine.
 fn compare_runs<B: Engine>(plan: &Plan, counts: &mut Counts) -> Result<(), Difference> {
-    let mut happened = Happened::default();
+    let mut happened = Happened::of("in runs");
     for number in 0..6_000 * plan.times {
         let random = &mut Random::part(plan.seed, "run", number as u64);
         let length = random.pick(&[30, 300, 3_000]);
@@ -102,26 +125,25 @@ fn compare_runs<B: Engine>(plan: &Plan, counts: &mut Counts) -> Result<(), Diffe
         if caught(|| reference::first_departure::<Second>(&deeds).map(|(_, what)| what)).is_some() {
             return Err(shown(&deeds, before, reference::first_departure::<Second>));
         }
-        happened.note_from(&deeds, 0);
+        happened.note_from(&deeds, 0, counts);
     }
     counts.add("calls in runs, every field and byte after each", happened.calls as usize);
     counts.add("  access steps and pokes, each against the reference", happened.accesses as usize);
     counts.add("  waits", happened.waits as usize);
     counts.add("  store-conditionals that succeeded", happened.successes as usize);
     counts.add("  store-conditionals that failed", happened.failures as usize);
-    println!("refusals in runs, by number: {}", happened.refused());
     Ok(())
 }
 
 /// Invented states and tables, wrong lengths and starts of any kind.
 fn compare_invented<B: Engine>(plan: &Plan, counts: &mut Counts) -> Result<(), Difference> {
-    let mut happened = Happened::default();
+    let mut happened = Happened::of("in invented states");
     let each = &mut |deeds: &[Deed]| {
         if caught(|| first_difference::<Second, B>(deeds).map(|(_, what)| what)).is_some() {
             return Err(shown(deeds, happened.calls as usize, first_difference::<Second, B>));
         }
         let edited = deeds.iter().position(|deed| matches!(deed, Deed::Edit(_)));
-        happened.note_from(deeds, edited.unwrap_or(0));
+        happened.note_from(deeds, edited.unwrap_or(0), counts);
         Ok(())
     };
     let random = |name, number| Random::part(plan.seed, name, number as u64);
@@ -138,7 +160,6 @@ fn compare_invented<B: Engine>(plan: &Plan, counts: &mut Counts) -> Result<(), D
         each(&invented::any_start(&mut random("start", number)))?;
     }
     counts.add("calls in invented states", happened.calls as usize);
-    println!("refusals in invented states, by number: {}", happened.refused());
     Ok(())
 }
 
@@ -187,9 +208,7 @@ pub fn run(plan: &Plan) -> bool {
         }
         println!("{name}: no difference, {:.1} s", begun.elapsed().as_secs_f64());
     }
-    for (name, count) in &counts.0 {
-        println!("{count:>12} {name}");
-    }
+    counts.print();
     true
 }
 

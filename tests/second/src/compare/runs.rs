@@ -1,6 +1,7 @@
 //! Random runs: cores that contend for few entries, calls that are to be refused among them.
 
 use super::deeds::{Deed, Second, State};
+use super::Counts;
 use crate::machine::{entry_of, Answer, Called, LL, LOAD, SC, STORE};
 use crate::random::Random;
 
@@ -107,43 +108,41 @@ fn aside(random: &mut Random, habits: &Habits, state: &State) -> Deed {
 }
 
 /// How often what happened in runs, so that a reader sees that they were no idle ones.
-#[derive(Default)]
 pub struct Happened {
+    place: &'static str,
     pub calls: u64,
     pub accesses: u64,
     pub waits: u64,
     pub successes: u64,
     pub failures: u64,
-    pub refusals: [u64; 19],
 }
 
 impl Happened {
-    fn note(&mut self, called: &Called) {
+    /// Nothing yet; refusals are counted as those of this place.
+    pub fn of(place: &'static str) -> Happened {
+        Happened { place, calls: 0, accesses: 0, waits: 0, successes: 0, failures: 0 }
+    }
+
+    fn note(&mut self, called: &Called, counts: &mut Counts) {
         self.calls += 1;
         self.accesses += called.record.is_some() as u64;
         match called.answer {
             Answer::Waits => self.waits += 1,
             Answer::Sc(0) => self.successes += 1,
             Answer::Sc(_) => self.failures += 1,
-            Answer::Refused(number) => self.refusals[number as usize] += 1,
+            Answer::Refused(number) => counts.refused(self.place, number),
             _ => {}
         }
     }
 
     /// Notes the calls of a run from one of its deeds on.
-    pub fn note_from(&mut self, deeds: &[Deed], first: usize) {
+    pub fn note_from(&mut self, deeds: &[Deed], first: usize, counts: &mut Counts) {
         let mut state = State::default();
         for (at, deed) in deeds.iter().enumerate() {
             match state.perform::<Second>(deed) {
-                Some(called) if at >= first => self.note(&called),
+                Some(called) if at >= first => self.note(&called, counts),
                 _ => {}
             }
         }
-    }
-
-    /// The refusals by number, as `5: 120, 6: 30`.
-    pub fn refused(&self) -> String {
-        let met = (1..).zip(&self.refusals[1..]).filter(|(_, &times)| times > 0);
-        met.map(|(number, times)| format!("{number}: {times}")).collect::<Vec<_>>().join(", ")
     }
 }
