@@ -198,16 +198,6 @@ fn clock_cost() -> Duration {
     (0..10_000).map(|_| Instant::now().elapsed()).min().unwrap_or_default()
 }
 
-/// Runs a round further down the stack: where copies come to lie on it can double a time, and each process
-/// has it elsewhere.
-#[inline(never)]
-fn lower<T>(depth: usize, round: &dyn Fn() -> T) -> T {
-    let room = black_box([0u8; 40]);
-    let result = if depth == 0 { round() } else { lower(depth - 1, round) };
-    black_box(&room);
-    result
-}
-
 /// Nanoseconds per give and per micro-step of one round, and memory as the run leaves it.
 fn play<S: Stepped>(run: &Phased) -> (f64, f64, Vec<u8>) {
     let (mut memory, mut owners, mut holders) =
@@ -283,14 +273,14 @@ fn least(best: &mut f64, time: f64) {
 fn machine_rows() -> Vec<Row> {
     let run = phased(8, 16_384, 1_024, 4_000);
     let mut rows = vec![Row::new("ns per micro-step"), Row::new("ns per give")];
-    for round in 0..ROUNDS {
-        let (give, step, ours) = lower(round, &|| play::<Second>(&run));
+    for _ in 0..ROUNDS {
+        let (give, step, ours) = play::<Second>(&run);
         least(&mut rows[0].ours, step);
         least(&mut rows[1].ours, give);
         black_box(&ours);
         #[cfg(proved)]
         {
-            let (give, step, theirs) = lower(round, &|| play::<library::Library>(&run));
+            let (give, step, theirs) = play::<library::Library>(&run);
             least(&mut rows[0].theirs, step);
             least(&mut rows[1].theirs, give);
             assert_eq!(ours, theirs, "the two sides end with the same memory");
@@ -418,10 +408,10 @@ pub fn growth(program: &Path) -> io::Result<()> {
     for (count, bytes, entries) in sizes.chain([64, 1_024, 65_536].map(|bytes| (8, bytes, 1_024))) {
         let run = phased(count, bytes, entries, 1_000);
         let (mut ours, mut theirs) = (f64::INFINITY, f64::INFINITY);
-        for round in 0..ROUNDS {
-            least(&mut ours, lower(round, &|| play::<Second>(&run).1));
+        for _ in 0..ROUNDS {
+            least(&mut ours, play::<Second>(&run).1);
             #[cfg(proved)]
-            least(&mut theirs, lower(round, &|| play::<library::Library>(&run).1));
+            least(&mut theirs, play::<library::Library>(&run).1);
         }
         print_growth(&format!("{count} cores, {bytes} bytes, {entries} entries"), ours, &mut theirs);
     }
