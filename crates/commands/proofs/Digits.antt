@@ -50,7 +50,7 @@ capped v [] = inl refl
 capped v (b ∷ s) = go (leb v largest) refl (capped (10 * v + digitOf b) s)
   where
     go : (t : Bool) → leb v largest ≡ t → (readFrom (10 * v + digitOf b) s ≡ valueFrom (10 * v + digitOf b) s) ⊎ ((largest < readFrom (10 * v + digitOf b) s) × (largest < valueFrom (10 * v + digitOf b) s))
-       → (readFrom (if t then 10 * v + digitOf b else v) s ≡ valueFrom (10 * v + digitOf b) s) ⊎ ((largest < readFrom (if t then 10 * v + digitOf b else v) s) × (largest < valueFrom (10 * v + digitOf b) s))
+        → (readFrom (if t then 10 * v + digitOf b else v) s ≡ valueFrom (10 * v + digitOf b) s) ⊎ ((largest < readFrom (if t then 10 * v + digitOf b else v) s) × (largest < valueFrom (10 * v + digitOf b) s))
     go true e h = h
     go false e h =
         let l = leb-false v largest e in
@@ -111,7 +111,7 @@ reading-on line from value digits at r k n small =
       said = rw add-one (r .said ∙ ap (readFrom value) f);
       tested = rw add-one (r .tested ∙ ap (λ (s : List ℕ). digits && allDigits s) f ∙ and-assoc digits (isDigit (getD line at 0)) (allDigits (firstField (drop (suc at) line))));
       more = rw add-one (r .more ∙ more-on line at k n);
-      place = rw add-one (r .place ∙ p)
+      place = rw add-one (r .place ∙ p);
     }
 
 -- at its end

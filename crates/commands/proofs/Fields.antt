@@ -66,6 +66,6 @@ after-field [] m = absurd (true≢false (sym m))
 after-field (b ∷ s) m = go (eqb b space) m (λ h. after-field s h)
   where
     go : (t : Bool) → (if t then true else moreFields s) ≡ true → (moreFields s ≡ true → drop (suc (length (firstField s))) s ≡ afterField s)
-       → drop (suc (length (if t then [] else b ∷ firstField s))) (b ∷ s) ≡ (if t then s else afterField s)
+        → drop (suc (length (if t then [] else b ∷ firstField s))) (b ∷ s) ≡ (if t then s else afterField s)
     go true e h = refl
     go false e h = h e

@@ -54,8 +54,8 @@ drop-used size lent r e = go (leb size (length lent)) refl e
 
 -- `step`
 pub after-step : (m : Machine) (memory owners holders : List ℕ) (core b o h : ℕ) → Used (m .bytes) memory b → Used (m .entries) owners o → Used (m .entries) holders h
-               → (called : Called) (m′ o′ h′ : List ℕ) → outcome called m′ o′ h′ ≡ stepOf m (take b memory) (take o owners) (take h holders) core
-               → (ran : Ran) → ran ≡ ranOf called → after ran (m′ ++ drop b memory) (o′ ++ drop o owners) (h′ ++ drop h holders) ≡ stepLine m memory owners holders core
+    → (called : Called) (m′ o′ h′ : List ℕ) → outcome called m′ o′ h′ ≡ stepOf m (take b memory) (take o owners) (take h holders) core
+    → (ran : Ran) → ran ≡ ranOf called → after ran (m′ ++ drop b memory) (o′ ++ drop o owners) (h′ ++ drop h holders) ≡ stepLine m memory owners holders core
 after-step m memory owners holders core b o h ub uo uh called m′ o′ h′ e ran r =
     let whole : outcome called m′ o′ h′ ≡ stepOf m (take (m .bytes) memory) (take (m .entries) owners) (take (m .entries) holders) core
     = rw (← take-used (m .bytes) memory b ub, ← take-used (m .entries) owners o uo, ← take-used (m .entries) holders h uh) e in
@@ -65,16 +65,16 @@ after-step m memory owners holders core b o h ub uo uh called m′ o′ h′ e r
 
 -- `new`
 pub after-new : (session : Session) (memory owners holders : List ℕ) (cores bytes entries : ℕ) → newFits bytes entries (length memory) (length owners) (length holders) ≡ true
-              → (called : Called) (m′ o′ h′ : List ℕ) → outcome called m′ o′ h′ ≡ startOf cores (take bytes memory) (take entries owners) (take entries holders)
-              → (ran : Ran) → ran ≡ startedRan session called
-              → after ran (m′ ++ drop bytes memory) (o′ ++ drop entries owners) (h′ ++ drop entries holders) ≡ newOf session memory owners holders cores bytes entries
+    → (called : Called) (m′ o′ h′ : List ℕ) → outcome called m′ o′ h′ ≡ startOf cores (take bytes memory) (take entries owners) (take entries holders)
+    → (ran : Ran) → ran ≡ startedRan session called
+    → after ran (m′ ++ drop bytes memory) (o′ ++ drop entries owners) (h′ ++ drop entries holders) ≡ newOf session memory owners holders cores bytes entries
 unfolding newOf
 after-new session memory owners holders cores bytes entries fits called m′ o′ h′ e ran r =
     let there : after ran (m′ ++ drop bytes memory) (o′ ++ drop entries owners) (h′ ++ drop entries holders) ≡ afterStart session bytes entries memory owners holders (outcome called m′ o′ h′) = rw r in
     rw fits (there ∙ ap (afterStart session bytes entries memory owners holders) e)
 
 pub new-refused : (session : Session) (memory owners holders : List ℕ) (cores bytes entries : ℕ) → newFits bytes entries (length memory) (length owners) (length holders) ≡ false
-                → (ran : Ran) → ran ≡ refusedRan 4 session → after ran memory owners holders ≡ newOf session memory owners holders cores bytes entries
+    → (ran : Ran) → ran ≡ refusedRan 4 session → after ran memory owners holders ≡ newOf session memory owners holders cores bytes entries
 unfolding newOf
 new-refused session memory owners holders cores bytes entries fits ran r = rw (fits, r)
 
@@ -103,14 +103,14 @@ once-same session memory owners holders done ran e = rw e (go (session .begun))
     go false = refl
 
 pub once-poked : (session : Session) (memory owners holders : List ℕ) (a : GuestAddress) (v : ℕ) (ran : Ran) (m′ : List ℕ)
-               → ran ≡ (if session .begun then ranOf (lentPoke (session .machine) memory a v .called) else refusedRan 10 session)
-               → m′ ≡ (if session .begun then beside (session .machine .bytes) (lentPoke (session .machine) memory a v .memory) memory else memory)
-               → after ran m′ owners holders ≡ onceBegun session memory owners holders (pokeLine (session .machine) memory owners holders a v)
+    → ran ≡ (if session .begun then ranOf (lentPoke (session .machine) memory a v .called) else refusedRan 10 session)
+    → m′ ≡ (if session .begun then beside (session .machine .bytes) (lentPoke (session .machine) memory a v .memory) memory else memory)
+    → after ran m′ owners holders ≡ onceBegun session memory owners holders (pokeLine (session .machine) memory owners holders a v)
 once-poked session memory owners holders a v ran m′ e f = rw (e, f) (go (session .begun))
   where
     go : (t : Bool) → after (if t then ranOf (lentPoke (session .machine) memory a v .called) else refusedRan 10 session)
-         (if t then beside (session .machine .bytes) (lentPoke (session .machine) memory a v .memory) memory else memory) owners holders
-       ≡ (if t then pokeLine (session .machine) memory owners holders a v else after (refusedRan 10 session) memory owners holders)
+        (if t then beside (session .machine .bytes) (lentPoke (session .machine) memory a v .memory) memory else memory) owners holders
+        ≡ (if t then pokeLine (session .machine) memory owners holders a v else after (refusedRan 10 session) memory owners holders)
     go true = refl
     go false = refl
 

@@ -62,5 +62,5 @@ pub put-then : (s t : List ℕ) (at : ℕ) (out out₁ out₂ : List ℕ) (e₁ 
 put-then s t at out out₁ out₂ e₁ e₂ p q h =
     record {
       bytes = q .bytes ∙ rw (p .ends, p .bytes) (put-put s t at out h);
-      ends = q .ends ∙ rw (p .ends, length-append s t) (omega arith)
+      ends = q .ends ∙ rw (p .ends, length-append s t) (omega arith);
     }

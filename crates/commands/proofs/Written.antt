@@ -22,7 +22,7 @@ enough (suc f) zero n s p q = absurd (omega arith)
 enough (suc f) (suc g) n s p q = go (ltb 9 n) refl (λ h. enough f g (n / 10) ((48 + n % 10) ∷ s) (omega arith) (omega arith))
   where
     go : (t : Bool) → ltb 9 n ≡ t → (9 < n → digitsBefore f (n / 10) ((48 + n % 10) ∷ s) ≡ digitsBefore g (n / 10) ((48 + n % 10) ∷ s))
-       → (if t then digitsBefore f (n / 10) ((48 + n % 10) ∷ s) else (48 + n) ∷ s) ≡ (if t then digitsBefore g (n / 10) ((48 + n % 10) ∷ s) else (48 + n) ∷ s)
+        → (if t then digitsBefore f (n / 10) ((48 + n % 10) ∷ s) else (48 + n) ∷ s) ≡ (if t then digitsBefore g (n / 10) ((48 + n % 10) ∷ s) else (48 + n) ∷ s)
     go true e h = h (ltb-true 9 n e)
     go false e h = refl
 

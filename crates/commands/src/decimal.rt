@@ -40,7 +40,11 @@ fn read_on(value: u64, b: u8) -> u64
     ensures { λ r. ⌜ r ≡ readOn value b ⌝ }
     ensures { λ r. ⌜ r ≤ 42949672959 ⌝ }
 {
-    if value <= 4294967295 { 10 * value + digit_of(b) } else { value }
+    if value <= 4294967295 {
+        10 * value + digit_of(b)
+    } else {
+        value
+    }
 }
 
 fn number_from(count: usize, digits: bool, zero: bool, value: u64) -> Number

@@ -131,7 +131,12 @@ fn begin(
     if !((b <= 16384) & (b <= memory.len()) & tables) {
         return Ran::refused(4, session);
     }
-    let called = machine::start(cores as usize, &mut memory[..b], &mut owners[..e], &mut holders[..e]);
+    let called = machine::start(
+        cores as usize,
+        &mut memory[..b],
+        &mut owners[..e],
+        &mut holders[..e],
+    );
     Ran::started(session, called)
 }
 
@@ -152,7 +157,13 @@ fn step(
     let b = used(m.bytes, memory.len());
     let o = used(m.entries, owners.len());
     let h = used(m.entries, holders.len());
-    Ran::of(machine::step(m, &mut memory[..b], &mut owners[..o], &mut holders[..h], core as usize))
+    Ran::of(machine::step_through(
+        m,
+        &mut memory[..b],
+        &mut owners[..o],
+        &mut holders[..h],
+        core as usize,
+    ))
 }
 
 // `give CORE ..`
@@ -203,8 +214,24 @@ pub fn run(
 {
     match command {
         Command::NotUnderstood => Ran::refused(9, session),
-        Command::New(cores, bytes) => begin(session, memory, owners, holders, cores, bytes, USUAL_ENTRIES),
-        Command::NewWith(cores, bytes, entries) => begin(session, memory, owners, holders, cores, bytes, entries),
+        Command::New(cores, bytes) => begin(
+            session,
+            memory,
+            owners,
+            holders,
+            cores,
+            bytes,
+            USUAL_ENTRIES,
+        ),
+        Command::NewWith(cores, bytes, entries) => begin(
+            session,
+            memory,
+            owners,
+            holders,
+            cores,
+            bytes,
+            entries,
+        ),
         Command::Give(core, operation) => give(session, core, operation),
         Command::Step(core) => step(session, memory, owners, holders, core),
         Command::Poke(address, value) => poke(session, memory, address, value),

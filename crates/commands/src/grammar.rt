@@ -46,19 +46,25 @@ fn numbers_at(line: &[u8], from: usize) -> Numbers
 {
     let first = field_at(line, from);
     let one = first.number;
-    let Number::Is(a) = one else { return Numbers::Wrong; };
+    let Number::Is(a) = one else {
+        return Numbers::Wrong;
+    };
     if !first.more {
         return Numbers::One(a);
     }
     let second = field_at(line, first.next);
     let two = second.number;
-    let Number::Is(b) = two else { return Numbers::Wrong; };
+    let Number::Is(b) = two else {
+        return Numbers::Wrong;
+    };
     if !second.more {
         return Numbers::Two(a, b);
     }
     let third = field_at(line, second.next);
     let three = third.number;
-    let Number::Is(c) = three else { return Numbers::Wrong; };
+    let Number::Is(c) = three else {
+        return Numbers::Wrong;
+    };
     if third.more {
         return Numbers::Wrong;
     }
@@ -71,19 +77,27 @@ fn operation_at(core: u32, line: &[u8], from: usize) -> Command
     ensures { λ r. ⌜ r ≡ operationCommand core (drop from (now (line .entry))) ⌝ }
 {
     if begins(line, from, b"load ") {
-        let Numbers::One(a) = numbers_at(line, from + 5) else { return Command::NotUnderstood; };
+        let Numbers::One(a) = numbers_at(line, from + 5) else {
+            return Command::NotUnderstood;
+        };
         return Command::Give(core, Operation::Load(GuestAddress(a)));
     }
     if begins(line, from, b"ll ") {
-        let Numbers::One(a) = numbers_at(line, from + 3) else { return Command::NotUnderstood; };
+        let Numbers::One(a) = numbers_at(line, from + 3) else {
+            return Command::NotUnderstood;
+        };
         return Command::Give(core, Operation::Ll(GuestAddress(a)));
     }
     if begins(line, from, b"store ") {
-        let Numbers::Two(a, v) = numbers_at(line, from + 6) else { return Command::NotUnderstood; };
+        let Numbers::Two(a, v) = numbers_at(line, from + 6) else {
+            return Command::NotUnderstood;
+        };
         return Command::Give(core, Operation::Store(GuestAddress(a), v));
     }
     if begins(line, from, b"sc ") {
-        let Numbers::Two(a, v) = numbers_at(line, from + 3) else { return Command::NotUnderstood; };
+        let Numbers::Two(a, v) = numbers_at(line, from + 3) else {
+            return Command::NotUnderstood;
+        };
         return Command::Give(core, Operation::Sc(GuestAddress(a), v));
     }
     Command::NotUnderstood
@@ -95,7 +109,9 @@ fn give_at(line: &[u8], from: usize) -> Command
 {
     let first = field_at(line, from);
     let one = first.number;
-    let Number::Is(core) = one else { return Command::NotUnderstood; };
+    let Number::Is(core) = one else {
+        return Command::NotUnderstood;
+    };
     if !first.more {
         return Command::NotUnderstood;
     }
@@ -112,21 +128,27 @@ fn too_long(line: &[u8]) -> bool
 fn step_command(numbers: Numbers) -> Command
     ensures { λ r. ⌜ r ≡ stepCommand numbers ⌝ }
 {
-    let Numbers::One(core) = numbers else { return Command::NotUnderstood; };
+    let Numbers::One(core) = numbers else {
+        return Command::NotUnderstood;
+    };
     Command::Step(core)
 }
 
 fn show_command(numbers: Numbers) -> Command
     ensures { λ r. ⌜ r ≡ withAddress Show numbers ⌝ }
 {
-    let Numbers::One(a) = numbers else { return Command::NotUnderstood; };
+    let Numbers::One(a) = numbers else {
+        return Command::NotUnderstood;
+    };
     Command::Show(GuestAddress(a))
 }
 
 fn poke_command(numbers: Numbers) -> Command
     ensures { λ r. ⌜ r ≡ withValue Poke numbers ⌝ }
 {
-    let Numbers::Two(a, v) = numbers else { return Command::NotUnderstood; };
+    let Numbers::Two(a, v) = numbers else {
+        return Command::NotUnderstood;
+    };
     Command::Poke(GuestAddress(a), v)
 }
 

@@ -1,21 +1,17 @@
-use Prim.Native.Nat.{suc}
+-- `commands::bytes::begins` meets its contract. Assumes nothing.
+use Prim.Native.Nat.{_+_, _-_, _<_, _≤_, suc}
 use Rattle.commands.proofs.Bools.{and-true}
-use Rattle.commands.proofs.Fields.{begins-all, begins-on}
-use mathlib.Core.Path.{_∙_}
-use native.Mathlib.Nat.{add-zero}
-use native.Mathlib.Numerals.{add-one}
-use Prim.Native.Nat.{_+_, _-_, _<_, _≤_}
-use Rattle.commands.proofs.Fields.{begins-short}
+use Rattle.commands.proofs.Fields.{begins-all, begins-on, begins-short}
+use Rattle.commands.proofs.bytes.begins.Statement.{statement}
 use Rattle.commands.specs.Bytes.{begins}
 use denote.Ref.{now}
 use lib.ListN.{drop, length, length-drop}
 use mathlib.Core.Bool.{_&&_}
-use mathlib.Core.Path.{_≡_, sym}
+use mathlib.Core.Path.{_∙_, _≡_, sym}
+use native.Mathlib.Nat.{add-zero}
+use native.Mathlib.Numerals.{add-one}
 use native.Mathlib.Omega.{arith}
-use Rattle.commands.proofs.bytes.begins.Statement.{statement}
 use Rattle.commands.proofs.bytes.begins.Tie as tie
-use Rattle.commands.proofs.bytes.begins.Reads as reads
-use Rattle.commands.proofs.bytes.begins.Lts as lts
 
 abbrev Inv-loop : tie.InvT-loop
 Inv-loop line from word same₀ i₀ same i = (i ≤ length word) × (length word + from ≤ length line) × (begins word (drop from line) ≡ (same && begins (drop i word) (drop (from + i) line)))
@@ -23,43 +19,33 @@ Inv-loop line from word same₀ i₀ same i = (i ≤ length word) × (length wor
 abbrev μ-loop : tie.MeasureT-loop
 μ-loop line from word same₀ i₀ same i = length word - i
 
--- src/bytes.rt:12:8
 sub-if1 : tie.Need-sub-if1 Inv-loop μ-loop
 sub-if1 c = omega (arith, c .pre)
 
--- src/bytes.rt:13:9
 returns : tie.Need-returns Inv-loop μ-loop
 returns c = let s : length (drop (c .before .args .from) (c .before .args .line .now)) < length (c .before .args .word .now) = simp length-drop (omega arith) in sym (begins-short (c .before .args .word .now) (drop (c .before .args .from) (c .before .args .line .now)) s)
 
--- src/bytes.rt:17:5
 loop-holds : tie.Need-loop-holds Inv-loop μ-loop
 loop-holds c = (omega arith, omega arith, rw add-zero)
 
--- src/bytes.rt:18:29
 add-same : tie.Need-add-same Inv-loop μ-loop
 add-same c = omega arith
 
--- src/bytes.rt:18:24
 shared-slice-read-same : tie.Need-shared-slice-read-same Inv-loop μ-loop
 shared-slice-read-same c = omega arith
 
--- src/bytes.rt:18:42
 shared-slice-read-same-2 : tie.Need-shared-slice-read-same-2 Inv-loop μ-loop
 shared-slice-read-same-2 c = omega arith
 
--- src/bytes.rt:19:9
 add-i : tie.Need-add-i Inv-loop μ-loop
 add-i c = omega arith
 
--- src/bytes.rt:17:5
 loop-less : tie.Need-loop-less Inv-loop μ-loop
 loop-less c = omega arith
 
--- src/bytes.rt:17:5
 loop-again : tie.Need-loop-again Inv-loop μ-loop
 loop-again c = let e : c .before .before .before .before .before .args .from + (c .before .before .before .loop .i + 1) ≡ suc (c .before .before .before .before .before .args .from + c .before .before .before .loop .i) = omega arith in (omega arith, omega arith, rw (e, add-one) (c .before .before .before .loop .inv .2 ∙ begins-on (c .before .before .before .before .before .args .word .now) (c .before .before .before .before .before .args .line .now) (c .before .before .before .loop .i) (c .before .before .before .before .before .args .from + c .before .before .before .loop .i) (c .before .before .before .loop .same) (omega arith) (omega arith)))
 
--- src/bytes.rt:8:1
 returns-2 : tie.Need-returns-2 Inv-loop μ-loop
 returns-2 c = let e : c .before .loop .i ≡ length (c .before .before .before .args .word .now) = omega arith in sym (c .before .loop .inv .2 ∙ rw (begins-all (c .before .before .before .args .word .now) (drop (c .before .before .before .args .from + c .before .loop .i) (c .before .before .before .args .line .now)) (c .before .loop .i) e) (sym (and-true (c .before .loop .same))))
 

@@ -1,19 +1,15 @@
-use lib.ListN.{List·getD-eq-default}
-use borrow.Author.Needs.{needs}
+-- `commands::decimal::zero_at` meets its contract. Assumes nothing.
 use Rattle.commands.proofs.decimal.zero_at.Statement.{statement}
+use borrow.Author.Needs.{needs}
+use lib.ListN.{List·getD-eq-default}
 use Rattle.commands.proofs.decimal.zero_at.Tie as tie
-use Rattle.commands.proofs.decimal.zero_at.Reads as reads
-use Rattle.commands.proofs.decimal.zero_at.Lts as lts
 
--- src/decimal.rt:61:16
 shared-slice-read-result : tie.Need-shared-slice-read-result
 shared-slice-read-result c = search needs
 
--- src/decimal.rt:61:9
 returns : tie.Need-returns
 returns c = search needs
 
--- src/decimal.rt:57:1
 returns-2 : tie.Need-returns-2
 returns-2 c = rw (List·getD-eq-default _ _ (c .if1 .left))
 

@@ -1,71 +1,52 @@
-use Rattle.commands.proofs.Lent.{new-room}
+-- `commands::effect::begin` meets its contract. Assumes nothing.
+use Rattle.commands.proofs.Lent.{after-new, new-refused, new-room}
+use Rattle.commands.proofs.effect.begin.Statement.{statement}
+use borrow.Author.Needs.{needs}
+use borrow.Author.Tests.{not-false, not-true}
 use lib.ListN.{length}
 use lib.Seq.{length-take-le}
 use mathlib.Core.Path.{sym}
-use Rattle.commands.proofs.Lent.{after-new, new-refused}
-use borrow.Author.Tests.{not-false, not-true}
-use borrow.Author.Needs.{needs}
-use Rattle.commands.proofs.effect.begin.Statement.{statement}
 use Rattle.commands.proofs.effect.begin.Tie as tie
-use Rattle.commands.proofs.effect.begin.Reads as reads
-use Rattle.commands.proofs.effect.begin.Lts as lts
-use Rattle.commands.proofs.effect.Ran.refused.Reads as refused-reads
-use Rattle.commands.proofs.effect.Ran.started.Reads as started-reads
-use Rattle.machine.proofs.start.Reads as start-reads
 
--- src/effect.rt:132:9
 refused-requires : tie.Need-refused-requires
 refused-requires c κs = search needs
 
--- src/effect.rt:132:9
 returns : tie.Need-returns
 returns c = new-refused (c .before .before .before .before .before .args .session) (c .before .before .before .before .before .args .memory .now) (c .before .before .before .before .before .args .owners .now) (c .before .before .before .before .before .args .holders .now) (c .before .before .before .before .before .args .cores) (c .before .before .before .before .before .args .bytes) (c .before .before .before .before .before .args .entries) (not-true _ (c .before .if1 .taken)) (c .refused .result) (c .refused .ensures)
 
--- src/effect.rt:134:49
 slice-relend-prefix-start : tie.Need-slice-relend-prefix-start
 slice-relend-prefix-start c = (new-room (c .before .before .before .before .args .bytes) (c .before .before .before .before .args .entries) (length (c .before .before .before .before .args .memory .now)) (length (c .before .before .before .before .args .owners .now)) (length (c .before .before .before .before .args .holders .now)) (not-false _ (c .if1 .left))) .0
 
--- src/effect.rt:134:49
 slice-aggregate-start : tie.Need-slice-aggregate-start
 slice-aggregate-start c = sym (length-take-le (c .before .before .before .before .before .args .bytes) (c .before .before .before .before .before .args .memory .now) ((new-room (c .before .before .before .before .before .args .bytes) (c .before .before .before .before .before .args .entries) (length (c .before .before .before .before .before .args .memory .now)) (length (c .before .before .before .before .before .args .owners .now)) (length (c .before .before .before .before .before .args .holders .now)) (not-false _ (c .before .if1 .left))) .0))
 
--- src/effect.rt:134:67
 slice-relend-prefix-start-2 : tie.Need-slice-relend-prefix-start-2
 slice-relend-prefix-start-2 c = (new-room (c .before .before .before .before .before .args .bytes) (c .before .before .before .before .before .args .entries) (length (c .before .before .before .before .before .args .memory .now)) (length (c .before .before .before .before .before .args .owners .now)) (length (c .before .before .before .before .before .args .holders .now)) (not-false _ (c .before .if1 .left))) .1
 
--- src/effect.rt:134:67
 slice-aggregate-start-2 : tie.Need-slice-aggregate-start-2
 slice-aggregate-start-2 c = sym (length-take-le (c .before .before .before .before .before .before .args .entries) (c .before .before .before .before .before .before .args .owners .now) ((new-room (c .before .before .before .before .before .before .args .bytes) (c .before .before .before .before .before .before .args .entries) (length (c .before .before .before .before .before .before .args .memory .now)) (length (c .before .before .before .before .before .before .args .owners .now)) (length (c .before .before .before .before .before .before .args .holders .now)) (not-false _ (c .before .before .if1 .left))) .1))
 
--- src/effect.rt:134:85
 slice-relend-prefix-start-3 : tie.Need-slice-relend-prefix-start-3
 slice-relend-prefix-start-3 c = (new-room (c .before .before .before .before .before .before .args .bytes) (c .before .before .before .before .before .before .args .entries) (length (c .before .before .before .before .before .before .args .memory .now)) (length (c .before .before .before .before .before .before .args .owners .now)) (length (c .before .before .before .before .before .before .args .holders .now)) (not-false _ (c .before .before .if1 .left))) .2
 
--- src/effect.rt:134:85
 slice-aggregate-start-3 : tie.Need-slice-aggregate-start-3
 slice-aggregate-start-3 c = sym (length-take-le (c .before .before .before .before .before .before .before .args .entries) (c .before .before .before .before .before .before .before .args .holders .now) ((new-room (c .before .before .before .before .before .before .before .args .bytes) (c .before .before .before .before .before .before .before .args .entries) (length (c .before .before .before .before .before .before .before .args .memory .now)) (length (c .before .before .before .before .before .before .before .args .owners .now)) (length (c .before .before .before .before .before .before .before .args .holders .now)) (not-false _ (c .before .before .before .if1 .left))) .2))
 
--- src/effect.rt:134:9
 start-requires : tie.Need-start-requires
 start-requires c κs = search needs
 
--- src/effect.rt:135:5
 started-requires : tie.Need-started-requires
 started-requires c κs = search needs
 
--- src/effect.rt:117:1
 same-length : tie.Need-same-length
 same-length c = search needs
 
--- src/effect.rt:117:1
 same-length-2 : tie.Need-same-length-2
 same-length-2 c = search needs
 
--- src/effect.rt:117:1
 same-length-3 : tie.Need-same-length-3
 same-length-3 c = search needs
 
--- src/effect.rt:117:1
 returns-2 : tie.Need-returns-2
 returns-2 c = after-new (c .before .before .before .before .before .before .before .before .before .before .before .before .before .before .before .args .session) (c .before .before .before .before .before .before .before .before .before .before .before .before .before .before .before .args .memory .now) (c .before .before .before .before .before .before .before .before .before .before .before .before .before .before .before .args .owners .now) (c .before .before .before .before .before .before .before .before .before .before .before .before .before .before .before .args .holders .now) (c .before .before .before .before .before .before .before .before .before .before .before .before .before .before .before .args .cores) (c .before .before .before .before .before .before .before .before .before .before .before .before .before .before .before .args .bytes) (c .before .before .before .before .before .before .before .before .before .before .before .before .before .before .before .args .entries) (not-false _ (c .before .before .before .before .before .before .before .before .before .before .before .if1 .left)) (c .before .before .before .before .before .before .before .start .result) (c .before .before .before .before .before .before .before .start .last .1 .0) (c .before .before .before .before .before .before .before .start .last .1 .1 .0) (c .before .before .before .before .before .before .before .start .last .1 .1 .1 .0) (c .before .before .before .before .before .before .before .start .ensures .1) (c .started .result) (c .started .ensures)
 

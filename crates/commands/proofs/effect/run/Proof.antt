@@ -1,150 +1,111 @@
+-- `commands::effect::run` meets its contract. Assumes nothing.
 use Rattle.commands.proofs.Lent.{once-poked, once-same}
+use Rattle.commands.proofs.effect.run.Statement.{statement}
 use Rattle.commands.specs.Effect.{after, runCommand}
 use Rattle.commands.specs.declared.effect.Ran.{Ran}
-use mathlib.Core.Path.{ap}
 use borrow.Author.Needs.{needs}
-use Rattle.commands.proofs.effect.run.Statement.{statement}
+use mathlib.Core.Path.{ap}
 use Rattle.commands.proofs.effect.run.Tie as tie
-use Rattle.commands.proofs.effect.run.Reads as reads
-use Rattle.commands.proofs.effect.run.Lts as lts
-use Rattle.commands.proofs.effect.Ran.refused.Reads as refused-reads
-use Rattle.commands.proofs.effect.begin.Reads as begin-reads
-use Rattle.commands.proofs.effect.give.Reads as give-reads
-use Rattle.commands.proofs.effect.poke.Reads as poke-reads
-use Rattle.commands.proofs.effect.show.Reads as show-reads
-use Rattle.commands.proofs.effect.step.Reads as step-reads
 
--- src/effect.rt:205:35
 enum-told : tie.Need-enum-told
 enum-told c = search needs
 
--- src/effect.rt:205:35
 refused-requires : tie.Need-refused-requires
 refused-requires c κs = search needs
 
--- src/effect.rt:206:22
 enum-known-command : tie.Need-enum-known-command
 enum-known-command c = search needs
 
--- src/effect.rt:206:39
 begin-requires : tie.Need-begin-requires
 begin-requires c κs = search needs
 
--- src/effect.rt:207:26
 enum-known-command-2 : tie.Need-enum-known-command-2
 enum-known-command-2 c = search needs
 
--- src/effect.rt:207:52
 begin-requires-2 : tie.Need-begin-requires-2
 begin-requires-2 c κs = search needs
 
--- src/effect.rt:208:23
 enum-known-command-3 : tie.Need-enum-known-command-3
 enum-known-command-3 c = search needs
 
--- src/effect.rt:208:43
 give-requires : tie.Need-give-requires
 give-requires c κs = search needs
 
--- src/effect.rt:209:23
 enum-known-command-4 : tie.Need-enum-known-command-4
 enum-known-command-4 c = search needs
 
--- src/effect.rt:209:32
 step-requires : tie.Need-step-requires
 step-requires c κs = search needs
 
--- src/effect.rt:210:23
 enum-known-command-5 : tie.Need-enum-known-command-5
 enum-known-command-5 c = search needs
 
--- src/effect.rt:210:42
 poke-requires : tie.Need-poke-requires
 poke-requires c κs = search needs
 
--- src/effect.rt:211:23
 enum-known-command-6 : tie.Need-enum-known-command-6
 enum-known-command-6 c = search needs
 
--- src/effect.rt:211:35
 show-requires : tie.Need-show-requires
 show-requires c κs = search needs
 
--- src/effect.rt:195:1
 returns : tie.Need-returns
 unfolding runCommand
 returns c = rw (c .before .enum-told .given .1) (ap (λ (r : Ran). after r (c .before .before .before .before .before .before .args .memory .now) (c .before .before .before .before .before .before .args .owners .now) (c .before .before .before .before .before .before .args .holders .now)) (c .refused .ensures))
 
--- src/effect.rt:195:1
 same-length : tie.Need-same-length
 same-length c = search needs
 
--- src/effect.rt:195:1
 same-length-2 : tie.Need-same-length-2
 same-length-2 c = search needs
 
--- src/effect.rt:195:1
 same-length-3 : tie.Need-same-length-3
 same-length-3 c = search needs
 
--- src/effect.rt:195:1
 returns-2 : tie.Need-returns-2
 unfolding runCommand
 returns-2 c = rw (c .before .before .before .before .before .before .before .before .before .before .before .command .given .1) (c .before .before .before .before .before .before .begin .ensures)
 
--- src/effect.rt:195:1
 same-length-4 : tie.Need-same-length-4
 same-length-4 c = search needs
 
--- src/effect.rt:195:1
 same-length-5 : tie.Need-same-length-5
 same-length-5 c = search needs
 
--- src/effect.rt:195:1
 same-length-6 : tie.Need-same-length-6
 same-length-6 c = search needs
 
--- src/effect.rt:195:1
 returns-3 : tie.Need-returns-3
 unfolding runCommand
 returns-3 c = rw (c .before .before .before .before .before .before .before .before .before .before .before .command2 .given .1) (c .before .before .before .before .before .before .begin2 .ensures)
 
--- src/effect.rt:195:1
 returns-4 : tie.Need-returns-4
 unfolding runCommand
 returns-4 c = rw (c .before .before .command3 .given .1) (once-same (c .before .before .before .before .before .before .before .args .session) (c .before .before .before .before .before .before .before .args .memory .now) (c .before .before .before .before .before .before .before .args .owners .now) (c .before .before .before .before .before .before .before .args .holders .now) _ (c .give .result) (c .give .ensures))
 
--- src/effect.rt:195:1
 same-length-7 : tie.Need-same-length-7
 same-length-7 c = search needs
 
--- src/effect.rt:195:1
 same-length-8 : tie.Need-same-length-8
 same-length-8 c = search needs
 
--- src/effect.rt:195:1
 same-length-9 : tie.Need-same-length-9
 same-length-9 c = search needs
 
--- src/effect.rt:195:1
 returns-5 : tie.Need-returns-5
 unfolding runCommand
 returns-5 c = rw (c .before .before .before .before .before .before .before .before .before .before .before .command4 .given .1) (c .before .before .before .before .before .before .step .ensures)
 
--- src/effect.rt:195:1
 same-length-10 : tie.Need-same-length-10
 same-length-10 c = search needs
 
--- src/effect.rt:195:1
 returns-6 : tie.Need-returns-6
 unfolding runCommand
 returns-6 c = rw (c .before .before .before .before .before .command5 .given .1) (once-poked (c .before .before .before .before .before .before .before .before .before .before .args .session) (c .before .before .before .before .before .before .before .before .before .before .args .memory .now) (c .before .before .before .before .before .before .before .before .before .before .args .owners .now) (c .before .before .before .before .before .before .before .before .before .before .args .holders .now) _ _ (c .before .before .poke .result) (c .before .before .poke .last .1 .0) (c .before .before .poke .ensures .0) (c .before .before .poke .ensures .1))
 
--- src/effect.rt:195:1
 same-length-11 : tie.Need-same-length-11
 same-length-11 c = search needs
 
--- src/effect.rt:195:1
 returns-7 : tie.Need-returns-7
 unfolding runCommand
 returns-7 c = rw (c .before .before .before .command6 .given .1) (once-same (c .before .before .before .before .before .before .before .before .args .session) (c .before .before .before .before .before .before .before .before .args .memory .now) (c .before .before .before .before .before .before .before .before .args .owners .now) (c .before .before .before .before .before .before .before .before .args .holders .now) _ (c .show .result) (c .show .ensures))

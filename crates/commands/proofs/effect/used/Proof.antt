@@ -1,15 +1,12 @@
+-- `commands::effect::used` meets its contract. Assumes nothing.
+use Rattle.commands.proofs.effect.used.Statement.{statement}
 use borrow.Author.Tests.{le-leb, lt-leb}
 use native.Mathlib.Omega.{arith}
-use Rattle.commands.proofs.effect.used.Statement.{statement}
 use Rattle.commands.proofs.effect.used.Tie as tie
-use Rattle.commands.proofs.effect.used.Reads as reads
-use Rattle.commands.proofs.effect.used.Lts as lts
 
--- src/effect.rt:109:1
 returns : tie.Need-returns
 returns c = (rw (le-leb _ _ (c .if1 .taken)), c .if1 .taken)
 
--- src/effect.rt:109:1
 returns-2 : tie.Need-returns-2
 returns-2 c = (rw (lt-leb _ _ (c .if1 .left)), omega arith)
 

@@ -1,38 +1,29 @@
-use borrow.Author.Needs.{needs}
+-- `commands::grammar::new_command` meets its contract. Assumes nothing.
 use Rattle.commands.proofs.grammar.new_command.Statement.{statement}
+use borrow.Author.Needs.{needs}
 use Rattle.commands.proofs.grammar.new_command.Tie as tie
-use Rattle.commands.proofs.grammar.new_command.Reads as reads
-use Rattle.commands.proofs.grammar.new_command.Lts as lts
 
--- src/grammar.rt:137:27
 enum-told : tie.Need-enum-told
 enum-told c = search needs
 
--- src/grammar.rt:138:28
 enum-told-2 : tie.Need-enum-told-2
 enum-told-2 c = search needs
 
--- src/grammar.rt:139:22
 enum-known-numbers : tie.Need-enum-known-numbers
 enum-known-numbers c = search needs
 
--- src/grammar.rt:140:24
 enum-known-numbers-2 : tie.Need-enum-known-numbers-2
 enum-known-numbers-2 c = search needs
 
--- src/grammar.rt:133:1
 returns : tie.Need-returns
 returns c = search needs
 
--- src/grammar.rt:133:1
 returns-2 : tie.Need-returns-2
 returns-2 c = search needs
 
--- src/grammar.rt:133:1
 returns-3 : tie.Need-returns-3
 returns-3 c = rw (c .before .numbers .given .1)
 
--- src/grammar.rt:133:1
 returns-4 : tie.Need-returns-4
 returns-4 c = rw (c .before .numbers2 .given .1)
 

@@ -1,128 +1,92 @@
+-- `commands::grammar::read_line` meets its contract. Assumes nothing.
 use Rattle.commands.proofs.Lines.{word-room}
 use Rattle.commands.proofs.Words.{line-give, line-new, line-none, line-poke, line-show, line-step}
-use Rattle.commands.specs.Grammar.{commandOf, giveWord, newWord, pokeWord, showWord, stepWord}
-use native.Mathlib.Omega.{arith}
-use mathlib.Core.Path.{_∙_, sym}
-use borrow.Author.Needs.{needs}
 use Rattle.commands.proofs.grammar.read_line.Statement.{statement}
+use Rattle.commands.specs.Grammar.{commandOf, giveWord, newWord, pokeWord, showWord, stepWord}
+use borrow.Author.Needs.{needs}
+use mathlib.Core.Path.{_∙_, sym}
+use native.Mathlib.Omega.{arith}
 use Rattle.commands.proofs.grammar.read_line.Tie as tie
-use Rattle.commands.proofs.grammar.read_line.Reads as reads
-use Rattle.commands.proofs.grammar.read_line.Lts as lts
-use Rattle.commands.proofs.bytes.begins.Reads as begins-reads
-use Rattle.commands.proofs.grammar.give_at.Reads as give-at-reads
-use Rattle.commands.proofs.grammar.new_command.Reads as new-command-reads
-use Rattle.commands.proofs.grammar.numbers_at.Reads as numbers-at-reads
-use Rattle.commands.proofs.grammar.poke_command.Reads as poke-command-reads
-use Rattle.commands.proofs.grammar.show_command.Reads as show-command-reads
-use Rattle.commands.proofs.grammar.step_command.Reads as step-command-reads
-use Rattle.commands.proofs.grammar.too_long.Reads as too-long-reads
 
--- src/grammar.rt:148:8
 too-long-requires : tie.Need-too-long-requires
 too-long-requires c κs = search needs
 
--- src/grammar.rt:149:9
 returns : tie.Need-returns
 unfolding commandOf
 returns c = rw (sym (c .before .too-long .ensures) ∙ c .if1 .taken)
 
--- src/grammar.rt:151:24
 slice-aggregate-begins : tie.Need-slice-aggregate-begins
 slice-aggregate-begins c = search needs
 
--- src/grammar.rt:151:8
 begins-requires : tie.Need-begins-requires
 begins-requires c κs = search needs
 
--- src/grammar.rt:152:29
 numbers-at-requires : tie.Need-numbers-at-requires
 numbers-at-requires c κs = word-room stepWord (c .before .before .before .before .before .before .args .line .now) 0 (omega arith) (sym (c .before .begins .ensures) ∙ c .if2 .taken)
 
--- src/grammar.rt:152:9
 step-command-requires : tie.Need-step-command-requires
 step-command-requires c κs = search needs
 
--- src/grammar.rt:152:9
 returns-2 : tie.Need-returns-2
 returns-2 c = c .step-command .ensures ∙ line-step (c .before .before .before .before .before .before .before .before .args .line .now) (c .before .numbers-at .result) (sym (c .before .before .before .before .before .before .too-long .ensures) ∙ c .before .before .before .before .before .if1 .left) (sym (c .before .before .before .begins .ensures) ∙ c .before .before .if2 .taken) (c .before .numbers-at .ensures)
 
--- src/grammar.rt:154:24
 slice-aggregate-begins-2 : tie.Need-slice-aggregate-begins-2
 slice-aggregate-begins-2 c = search needs
 
--- src/grammar.rt:154:8
 begins-requires-2 : tie.Need-begins-requires-2
 begins-requires-2 c κs = search needs
 
--- src/grammar.rt:155:9
 give-at-requires : tie.Need-give-at-requires
 give-at-requires c κs = word-room giveWord (c .before .before .before .before .before .before .before .before .before .args .line .now) 0 (omega arith) (sym (c .before .begins2 .ensures) ∙ c .if3 .taken)
 
--- src/grammar.rt:155:9
 returns-3 : tie.Need-returns-3
 returns-3 c = c .give-at .ensures ∙ line-give (c .before .before .before .before .before .before .before .before .before .before .args .line .now) (sym (c .before .before .before .before .before .before .before .before .too-long .ensures) ∙ c .before .before .before .before .before .before .before .if1 .left) (sym (c .before .before .before .before .before .begins .ensures) ∙ c .before .before .before .before .if2 .left) (sym (c .before .before .begins2 .ensures) ∙ c .before .if3 .taken)
 
--- src/grammar.rt:157:24
 slice-aggregate-begins-3 : tie.Need-slice-aggregate-begins-3
 slice-aggregate-begins-3 c = search needs
 
--- src/grammar.rt:157:8
 begins-requires-3 : tie.Need-begins-requires-3
 begins-requires-3 c κs = search needs
 
--- src/grammar.rt:158:29
 numbers-at-requires-2 : tie.Need-numbers-at-requires-2
 numbers-at-requires-2 c κs = word-room showWord (c .before .before .before .before .before .before .before .before .before .before .before .before .args .line .now) 0 (omega arith) (sym (c .before .begins3 .ensures) ∙ c .if4 .taken)
 
--- src/grammar.rt:158:9
 show-command-requires : tie.Need-show-command-requires
 show-command-requires c κs = search needs
 
--- src/grammar.rt:158:9
 returns-4 : tie.Need-returns-4
 returns-4 c = c .show-command .ensures ∙ line-show (c .before .before .before .before .before .before .before .before .before .before .before .before .before .before .args .line .now) (c .before .numbers-at2 .result) (sym (c .before .before .before .before .before .before .before .before .before .before .before .before .too-long .ensures) ∙ c .before .before .before .before .before .before .before .before .before .before .before .if1 .left) (sym (c .before .before .before .before .before .before .before .before .before .begins .ensures) ∙ c .before .before .before .before .before .before .before .before .if2 .left) (sym (c .before .before .before .before .before .before .begins2 .ensures) ∙ c .before .before .before .before .before .if3 .left) (sym (c .before .before .before .begins3 .ensures) ∙ c .before .before .if4 .taken) (c .before .numbers-at2 .ensures)
 
--- src/grammar.rt:160:24
 slice-aggregate-begins-4 : tie.Need-slice-aggregate-begins-4
 slice-aggregate-begins-4 c = search needs
 
--- src/grammar.rt:160:8
 begins-requires-4 : tie.Need-begins-requires-4
 begins-requires-4 c κs = search needs
 
--- src/grammar.rt:161:29
 numbers-at-requires-3 : tie.Need-numbers-at-requires-3
 numbers-at-requires-3 c κs = word-room pokeWord (c .before .before .before .before .before .before .before .before .before .before .before .before .before .before .before .args .line .now) 0 (omega arith) (sym (c .before .begins4 .ensures) ∙ c .if5 .taken)
 
--- src/grammar.rt:161:9
 poke-command-requires : tie.Need-poke-command-requires
 poke-command-requires c κs = search needs
 
--- src/grammar.rt:161:9
 returns-5 : tie.Need-returns-5
 returns-5 c = c .poke-command .ensures ∙ line-poke (c .before .before .before .before .before .before .before .before .before .before .before .before .before .before .before .before .before .args .line .now) (c .before .numbers-at3 .result) (sym (c .before .before .before .before .before .before .before .before .before .before .before .before .before .before .before .too-long .ensures) ∙ c .before .before .before .before .before .before .before .before .before .before .before .before .before .before .if1 .left) (sym (c .before .before .before .before .before .before .before .before .before .before .before .before .begins .ensures) ∙ c .before .before .before .before .before .before .before .before .before .before .before .if2 .left) (sym (c .before .before .before .before .before .before .before .before .before .begins2 .ensures) ∙ c .before .before .before .before .before .before .before .before .if3 .left) (sym (c .before .before .before .before .before .before .begins3 .ensures) ∙ c .before .before .before .before .before .if4 .left) (sym (c .before .before .before .begins4 .ensures) ∙ c .before .before .if5 .taken) (c .before .numbers-at3 .ensures)
 
--- src/grammar.rt:163:24
 slice-aggregate-begins-5 : tie.Need-slice-aggregate-begins-5
 slice-aggregate-begins-5 c = search needs
 
--- src/grammar.rt:163:8
 begins-requires-5 : tie.Need-begins-requires-5
 begins-requires-5 c κs = search needs
 
--- src/grammar.rt:164:28
 numbers-at-requires-4 : tie.Need-numbers-at-requires-4
 numbers-at-requires-4 c κs = word-room newWord (c .before .before .before .before .before .before .before .before .before .before .before .before .before .before .before .before .before .before .args .line .now) 0 (omega arith) (sym (c .before .begins5 .ensures) ∙ c .if6 .taken)
 
--- src/grammar.rt:164:9
 new-command-requires : tie.Need-new-command-requires
 new-command-requires c κs = search needs
 
--- src/grammar.rt:164:9
 returns-6 : tie.Need-returns-6
 returns-6 c = c .new-command .ensures ∙ line-new (c .before .before .before .before .before .before .before .before .before .before .before .before .before .before .before .before .before .before .before .before .args .line .now) (c .before .numbers-at4 .result) (sym (c .before .before .before .before .before .before .before .before .before .before .before .before .before .before .before .before .before .before .too-long .ensures) ∙ c .before .before .before .before .before .before .before .before .before .before .before .before .before .before .before .before .before .if1 .left) (sym (c .before .before .before .before .before .before .before .before .before .before .before .before .before .before .before .begins .ensures) ∙ c .before .before .before .before .before .before .before .before .before .before .before .before .before .before .if2 .left) (sym (c .before .before .before .before .before .before .before .before .before .before .before .before .begins2 .ensures) ∙ c .before .before .before .before .before .before .before .before .before .before .before .if3 .left) (sym (c .before .before .before .before .before .before .before .before .before .begins3 .ensures) ∙ c .before .before .before .before .before .before .before .before .if4 .left) (sym (c .before .before .before .before .before .before .begins4 .ensures) ∙ c .before .before .before .before .before .if5 .left) (sym (c .before .before .before .begins5 .ensures) ∙ c .before .before .if6 .taken) (c .before .numbers-at4 .ensures)
 
--- src/grammar.rt:145:1
 returns-7 : tie.Need-returns-7
 returns-7 c = line-none (c .before .before .before .before .before .before .before .before .before .before .before .before .before .before .before .before .before .before .args .line .now) (sym (c .before .before .before .before .before .before .before .before .before .before .before .before .before .before .before .before .too-long .ensures) ∙ c .before .before .before .before .before .before .before .before .before .before .before .before .before .before .before .if1 .left) (sym (c .before .before .before .before .before .before .before .before .before .before .before .before .before .begins .ensures) ∙ c .before .before .before .before .before .before .before .before .before .before .before .before .if2 .left) (sym (c .before .before .before .before .before .before .before .before .before .before .begins2 .ensures) ∙ c .before .before .before .before .before .before .before .before .before .if3 .left) (sym (c .before .before .before .before .before .before .before .begins3 .ensures) ∙ c .before .before .before .before .before .before .if4 .left) (sym (c .before .before .before .before .begins4 .ensures) ∙ c .before .before .before .if5 .left) (sym (c .before .begins5 .ensures) ∙ c .if6 .left)
 

@@ -1,20 +1,16 @@
+-- `commands::grammar::show_command` meets its contract. Assumes nothing.
 use Rattle.commands.proofs.Counted.{address-else}
+use Rattle.commands.proofs.grammar.show_command.Statement.{statement}
 use Rattle.commands.specs.declared.grammar.Command.the-variants.{Show}
 use borrow.Author.Needs.{needs}
-use Rattle.commands.proofs.grammar.show_command.Statement.{statement}
 use Rattle.commands.proofs.grammar.show_command.Tie as tie
-use Rattle.commands.proofs.grammar.show_command.Reads as reads
-use Rattle.commands.proofs.grammar.show_command.Lts as lts
 
--- src/grammar.rt:122:22
 enum-known-numbers : tie.Need-enum-known-numbers
 enum-known-numbers c = search needs
 
--- src/grammar.rt:122:42
 returns : tie.Need-returns
 returns c = address-else Show (c .before .args .numbers) (c .match .keys2)
 
--- src/grammar.rt:119:1
 returns-2 : tie.Need-returns-2
 returns-2 c = rw (c .before .numbers .given .1)
 

@@ -1,27 +1,20 @@
+-- `commands::effect::Ran::started` meets its contract. Assumes nothing.
+use Rattle.commands.proofs.effect.Ran.started.Statement.{statement}
 use Rattle.machine.specs.Answers.{numberOf}
+use borrow.Author.Needs.{needs}
 use borrow.Author.Tests.{eq-eqb, ne-eqb}
 use mathlib.Core.Path.{_∙_, sym}
-use borrow.Author.Needs.{needs}
-use Rattle.commands.proofs.effect.Ran.started.Statement.{statement}
 use Rattle.commands.proofs.effect.Ran.started.Tie as tie
-use Rattle.commands.proofs.effect.Ran.started.Reads as reads
-use Rattle.commands.proofs.effect.Ran.started.Lts as lts
-use Rattle.commands.proofs.effect.Ran.of.Reads as of-reads
-use Rattle.machine.proofs.answers.Answer.number.Reads as number-reads
 
--- src/effect.rt:81:12
 number-requires : tie.Need-number-requires
 number-requires c κs = search needs
 
--- src/effect.rt:82:13
 of-requires : tie.Need-of-requires
 of-requires c κs = search needs
 
--- src/effect.rt:82:13
 returns : tie.Need-returns
 returns c = rw (eq-eqb _ _ (sym (c .before .before .number .ensures) ∙ c .before .if1 .taken)) (c .of .ensures)
 
--- src/effect.rt:77:5
 returns-2 : tie.Need-returns-2
 returns-2 c = rw (ne-eqb (numberOf (c .before .before .args .called .answer)) 0 (λ e. c .if1 .left (c .before .number .ensures ∙ e)))
 

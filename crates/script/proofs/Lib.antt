@@ -1,0 +1,6 @@
+-- `script::` meets its contract.
+-- Assumes nothing.
+pub mod Cutting
+pub mod Pieces
+pub mod Outputs
+pub mod Answers
