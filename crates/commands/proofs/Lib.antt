@@ -7,3 +7,4 @@ pub mod Words
 pub mod Written
 pub mod Placed
 pub mod Lent
+pub mod Handed
