@@ -7,4 +7,6 @@ pub mod Words
 pub mod Written
 pub mod Placed
 pub mod Lent
+pub mod Decimals
 pub mod Handed
+pub mod ReadBack
