@@ -10,3 +10,4 @@ pub mod Lent
 pub mod Decimals
 pub mod Handed
 pub mod ReadBack
+pub mod OneLine

@@ -39,3 +39,7 @@ Writable (Show a) = Small (a .0)
 -- a command that is written and read is the same command
 abbrev pub RoundTrip : Type 0
 RoundTrip = (c : Command) → Writable c → commandOf (lineOf c) ≡ c
+
+-- "without needless zeros", "single spaces": two different lines are never the same command
+abbrev pub OnlyOne : Type 0
+OnlyOne = (line other : List ℕ) → commandOf line ≡ commandOf other → (commandOf line ≡ NotUnderstood → ⊥) → line ≡ other
