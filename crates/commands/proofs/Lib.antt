@@ -11,3 +11,4 @@ pub mod Decimals
 pub mod Handed
 pub mod ReadBack
 pub mod OneLine
+pub mod Answers
