@@ -1,17 +1,16 @@
 -- A number that is written reads as that number.
 -- Assumes nothing.
-use mathlib.Core.Path.{_≡_, refl, ap, _∙_, sym}
+use mathlib.Core.Path.{_≡_, refl, ap, _∙_}
 use mathlib.Core.Bool.{Bool, true, false, not, _&&_}
 use mathlib.Core.List.{List, [], _∷_, _++_}
-use Prim.Native.Nat.{ℕ, zero, suc, _+_, _*_, _-_, _/_, _%_, _≤_, _<_}
+use Prim.Native.Nat.{ℕ, zero, suc, _+_, _*_, _/_, _%_, _≤_, _<_}
 use native.Mathlib.Omega.{arith}
 use lib.ListN.{length, getD}
 use lib.Dec.{eqb, ltb, leb}
-use borrow.Author.Tests.{le-leb, leb-true, ltb-true, ltb-false, ne-eqb, le-ltb}
+use borrow.Author.Tests.{le-leb, leb-true, ltb-true, ltb-false, ne-eqb}
 use Rattle.machine.specs.Basics.{if_then_else_}
 use Rattle.commands.specs.Bytes.{space, firstField, moreFields, afterField}
 use Rattle.commands.specs.Decimal.{largest, isDigit, digitOf, allDigits, valueFrom, numberFrom, numberIn, digitsBefore, decimal}
-use Rattle.commands.specs.declared.decimal.Number.{Number}
 use Rattle.commands.specs.declared.decimal.Number.the-variants.{Wrong, Is}
 use Rattle.commands.proofs.Bools.{and₂}
 

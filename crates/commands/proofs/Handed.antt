@@ -3,7 +3,7 @@
 use mathlib.Core.Path.{_≡_, refl, ap, _∙_, sym}
 use mathlib.Core.Bool.{Bool, true, false}
 use mathlib.Core.List.{List}
-use Prim.Native.Nat.{ℕ, _≤_, _<_}
+use Prim.Native.Nat.{ℕ, _<_}
 use native.Mathlib.Omega.{arith}
 use lib.ListN.{length, take}
 use lib.Seq.{take-all, length-take-le}
@@ -12,7 +12,6 @@ use borrow.Author.Tests.{lt-ltb, ltb-true, ltb-false}
 use Rattle.commands.specs.Grammar.{commandOf}
 use Rattle.commands.specs.Effect.{runLine, runCommand}
 use Rattle.commands.specs.Promises.{FirstBytesDecide}
-use Rattle.commands.specs.declared.grammar.Command.{Command}
 use Rattle.commands.specs.declared.grammar.Command.the-variants.{NotUnderstood}
 
 -- a line of more than 80 bytes

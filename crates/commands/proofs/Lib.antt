@@ -12,3 +12,4 @@ pub mod Handed
 pub mod ReadBack
 pub mod OneLine
 pub mod Answers
+pub mod Begun

@@ -4,9 +4,9 @@ use mathlib.Core.Path.{_≡_, refl, ap, _∙_, sym}
 use mathlib.Core.Logic.{_⊎_, inl, inr}
 use mathlib.Core.Bool.{Bool, true, false, not, _&&_, true≢false, false≢true}
 use mathlib.Core.List.{List, [], _∷_, _++_, append-assoc, append-nil}
-use Prim.Native.Nat.{ℕ, zero, suc, _+_, _*_, _-_, _/_, _%_, _≤_, _<_}
+use Prim.Native.Nat.{ℕ, zero, suc, _+_, _*_, _/_, _%_, _≤_}
 use native.Mathlib.Omega.{arith}
-use lib.ListN.{length, getD, drop}
+use lib.ListN.{length, drop}
 use lib.Dec.{eqb, ltb, leb}
 use borrow.Author.Tests.{eqb-true, eqb-false, leb-true, lt-ltb, not-true}
 use Rattle.machine.specs.Basics.{if_then_else_}
@@ -14,38 +14,14 @@ use Rattle.machine.specs.declared.entry.GuestAddress.{GuestAddress}
 use Rattle.machine.specs.declared.answers.Operation.the-variants.{Load, Ll, Store, Sc}
 use Rattle.commands.specs.Bytes.{begins, space, firstField, moreFields, afterField}
 use Rattle.commands.specs.Decimal.{largest, isDigit, digitOf, allDigits, valueFrom, numberFrom, numberIn, digitsBefore, decimal}
-use Rattle.commands.specs.Grammar.{
-  newWord,
-  giveWord,
-  stepWord,
-  pokeWord,
-  showWord,
-  loadWord,
-  llWord,
-  storeWord,
-  scWord,
-  whereNumber,
-  thirdNumber,
-  secondNumber,
-  numbersOf,
-  stepCommand,
-  withAddress,
-  withValue,
-  newCommand,
-  operationCommand,
-  giveCommand,
-  tooLong,
-  commandOf,
-  operationText,
-  lineOf,
-}
-use Rattle.commands.specs.Promises.{OnlyOne}
+use Rattle.commands.specs.Grammar.{newWord, giveWord, stepWord, pokeWord, showWord, loadWord, llWord, storeWord, scWord, whereNumber, thirdNumber, secondNumber, numbersOf, stepCommand, withAddress, withValue, newCommand, operationCommand, giveCommand, tooLong, commandOf, operationText, lineOf}
+use Rattle.commands.specs.Promises.{UnderstoodIsWritten, OnlyOne}
 use Rattle.commands.specs.declared.decimal.Number.{Number}
 use Rattle.commands.specs.declared.decimal.Number.the-variants as number
 use Rattle.commands.specs.declared.grammar.Numbers.{Numbers}
 use Rattle.commands.specs.declared.grammar.Numbers.the-variants.{Wrong, One, Two, Three}
 use Rattle.commands.specs.declared.grammar.Command.{Command}
-use Rattle.commands.specs.declared.grammar.Command.the-variants.{NotUnderstood, New, NewWith, Give, Step, Poke, Show}
+use Rattle.commands.specs.declared.grammar.Command.the-variants.{NotUnderstood, Give, Poke, Show}
 use Rattle.commands.proofs.Bools.{and₂}
 use Rattle.commands.proofs.Written.{digits-on, digits-last}
 
@@ -300,8 +276,7 @@ give-written line w = go (numberIn (firstField (drop 5 line))) refl
     go number.Wrong e = inl refl
     go (number.Is core) e = by core e (moreFields (drop 5 line)) refl
 
--- an understood line is the line of its command
-pub line-written : (line : List ℕ) → (commandOf line ≡ NotUnderstood) ⊎ (line ≡ lineOf (commandOf line))
+line-written : (line : List ℕ) → (commandOf line ≡ NotUnderstood) ⊎ (line ≡ lineOf (commandOf line))
 unfolding commandOf lineOf
 line-written line =
     either line (tooLong line) _ _ (λ w. inl refl)
@@ -311,10 +286,12 @@ line-written line =
     (either line (begins pokeWord line) _ _ (λ w. value-written line (drop 5 line) pokeWord Poke (begins-is pokeWord line w) (λ a v. refl))
     (either line (begins newWord line) _ _ (λ w. new-written line w) (inl refl))))))
 
-pub only-one : OnlyOne
-only-one line other e u = go (line-written line) (line-written other)
+pub understood-is-written : UnderstoodIsWritten
+understood-is-written line u = go (line-written line)
   where
-    go : (commandOf line ≡ NotUnderstood) ⊎ (line ≡ lineOf (commandOf line)) → (commandOf other ≡ NotUnderstood) ⊎ (other ≡ lineOf (commandOf other)) → line ≡ other
-    go (inl n) k = absurd (u n)
-    go (inr h) (inl n) = absurd (u (e ∙ n))
-    go (inr h) (inr k) = h ∙ ap lineOf e ∙ sym k
+    go : (commandOf line ≡ NotUnderstood) ⊎ (line ≡ lineOf (commandOf line)) → line ≡ lineOf (commandOf line)
+    go (inl n) = absurd (u n)
+    go (inr h) = h
+
+pub only-one : OnlyOne
+only-one line other e u = understood-is-written line u ∙ ap lineOf e ∙ sym (understood-is-written other (λ n. u (e ∙ n)))

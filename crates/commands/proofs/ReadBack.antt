@@ -1,9 +1,9 @@
 -- A command that is written and read is the same command.
 -- Assumes nothing.
-use mathlib.Core.Path.{_≡_, refl, ap, _∙_, sym}
-use mathlib.Core.Bool.{Bool, true, false}
-use mathlib.Core.List.{List, [], _∷_, _++_, append-assoc}
-use Prim.Native.Nat.{ℕ, _+_, _≤_, _<_}
+use mathlib.Core.Path.{_≡_, ap, _∙_}
+use mathlib.Core.Bool.{true, false}
+use mathlib.Core.List.{List, _∷_, _++_, append-assoc}
+use Prim.Native.Nat.{ℕ, _+_, _≤_}
 use native.Mathlib.Omega.{arith}
 use lib.ListN.{length, length-append}
 use lib.Dec.{ltb}
@@ -15,7 +15,7 @@ use Rattle.commands.specs.Decimal.{numberIn, decimal}
 use Rattle.commands.specs.Grammar.{newWord, giveWord, stepWord, pokeWord, showWord, loadWord, llWord, storeWord, scWord, thirdNumber, secondNumber, numbersOf, operationCommand, giveCommand, commandOf, operationText, lineOf}
 use Rattle.commands.specs.Promises.{Small, SmallOperation, Writable, RoundTrip}
 use Rattle.commands.specs.declared.decimal.Number.the-variants as number
-use Rattle.commands.specs.declared.grammar.Numbers.the-variants.{Wrong, One, Two, Three}
+use Rattle.commands.specs.declared.grammar.Numbers.the-variants.{One, Two, Three}
 use Rattle.commands.specs.declared.grammar.Command.{Command}
 use Rattle.commands.specs.declared.grammar.Command.the-variants.{NotUnderstood, New, NewWith, Give, Step, Poke, Show}
 use Rattle.commands.proofs.Placed.{decimal-few}
