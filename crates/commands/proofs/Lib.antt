@@ -7,3 +7,9 @@ pub mod Words
 pub mod Written
 pub mod Placed
 pub mod Lent
+pub mod Decimals
+pub mod Handed
+pub mod ReadBack
+pub mod OneLine
+pub mod Answers
+pub mod Begun

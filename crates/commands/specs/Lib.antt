@@ -3,3 +3,4 @@ pub mod Decimal
 pub mod Grammar
 pub mod Effect
 pub mod Texts
+pub mod Promises
