@@ -5,7 +5,8 @@ use mathlib.Core.List.{List, [], _∷_, _++_, append-assoc}
 use Prim.Native.Nat.{ℕ}
 use Rattle.script.proofs.Pieces.{pieces-do-not-matter}
 use Rattle.script.specs.Lines.{wholeLines, unfinished, handed, handedOn, linesOf, cutFrom}
-use Rattle.script.specs.Output.{Work, textOf, textsOf, afterLine, afterLines, fresh, outputFrom, OutputIsWhole, FirstBytesDecide, OutputIsOfLines}
+use Rattle.script.specs.Output.{Work, textOf, textsOf, afterLine, afterLines, fresh, outputFrom, OutputIsWhole, OutputIsOfLines}
+use Rattle.commands.proofs.Handed.{first-bytes-decide}
 
 pub texts-append : (w : Work) (a b : List (List ℕ)) → textsOf w (a ++ b) ≡ textsOf w a ++ textsOf (afterLines w a) b
 texts-append w [] b = refl
@@ -23,10 +24,10 @@ output-cut w held (piece ∷ pieces) =
 pub output-is-whole : OutputIsWhole
 output-is-whole pieces = output-cut fresh [] pieces ∙ ap (textsOf fresh) (pieces-do-not-matter pieces)
 
-texts-handed : FirstBytesDecide → (w : Work) (lines : List (List ℕ)) → textsOf w (handedOn lines) ≡ textsOf w lines
+texts-handed : (w : Work) (lines : List (List ℕ)) → textsOf w (handedOn lines) ≡ textsOf w lines
 unfolding textOf afterLine
-texts-handed first w [] = refl
-texts-handed first w (line ∷ lines) = rw (first (w .session) (w .memory) (w .owners) (w .holders) line) (ap (λ (l : List ℕ). textOf w line ++ l) (texts-handed first (afterLine w line) lines))
+texts-handed w [] = refl
+texts-handed w (line ∷ lines) = rw (first-bytes-decide (w .session) (w .memory) (w .owners) (w .holders) line) (ap (λ (l : List ℕ). textOf w line ++ l) (texts-handed (afterLine w line) lines))
 
 pub output-is-of-lines : OutputIsOfLines
-output-is-of-lines first input = texts-handed first fresh (linesOf input)
+output-is-of-lines input = texts-handed fresh (linesOf input)

@@ -57,11 +57,6 @@ outputFrom w held (piece ∷ pieces) =
 abbrev pub OutputIsWhole : Type 0
 OutputIsWhole = (pieces : List (List ℕ)) → outputFrom fresh [] pieces ≡ outputOf (joined pieces)
 
--- A line of more than 80 bytes is the same line for the rules as its first 81 bytes.
-abbrev pub FirstBytesDecide : Type 0
-FirstBytesDecide =
-    (session : Session) (memory owners holders line : List ℕ) → runLine session memory owners holders (handed line) ≡ runLine session memory owners holders line
-
--- So the output is that of the lines themselves.
+-- What is handed on of a line decides what it is, so the output is that of the lines themselves.
 abbrev pub OutputIsOfLines : Type 0
-OutputIsOfLines = FirstBytesDecide → (input : List ℕ) → outputOf input ≡ textsOf fresh (linesOf input)
+OutputIsOfLines = (input : List ℕ) → outputOf input ≡ textsOf fresh (linesOf input)
