@@ -219,7 +219,7 @@ pub word-lent : {m : Machine} {memory : ℕ} {a : GuestAddress} → WordAccepted
 word-lent {m} {memory} {a} h = let w = word-inside a (sizes-fit m (h .ranges) .words) (h .address) in omega arith
 
 -- what a step that is not refused can reach
-pub reach : {m : Machine} {memory : ℕ} {owners holders : List ℕ} {core : ℕ} → StepAccepted m memory owners holders core → Reach m memory owners holders core
+pub reach : {m : Machine} {memory : ℕ} {owners holders : List ℕ} {core : ℕ} → StepAccepted m memory owners holders core → Reach (coreAt m core) (entryAt m core .0) memory owners holders core
 reach {m} {memory} {owners} {holders} {core} h =
     let s = sizes-fit m (h .ranges) in
     let small = core-small m (h .ranges) (h .core-below) in

@@ -2,6 +2,7 @@ pub mod Bools
 pub mod Bytes
 pub mod Accepted
 pub mod Numbers
+pub mod Acting
 pub mod Words
 pub mod Kept
 pub mod Kinded

@@ -9,6 +9,7 @@ pub mod Answers
 pub mod Calls
 pub mod Place
 pub mod Reach
+pub mod Acted
 pub mod Laws
 pub mod History
 pub mod Reference

@@ -3,6 +3,7 @@ use crate::answers::Answer;
 use crate::answers::Handed;
 use crate::answers::Operation;
 use crate::answers::Record;
+use crate::cores::Core;
 use crate::cores::MicroStep;
 use crate::entry::GuestAddress;
 use crate::entry::entry_of;
@@ -14,6 +15,9 @@ ghost use mathlib.Core.Path.{_≡_};
 ghost use lib.ListN.{length};
 ghost use Rattle.machine.specs.Basics.{if_then_else_};
 ghost use Rattle.machine.specs.Answers.{numberOf};
+ghost use Rattle.machine.specs.Entry.{entryOf};
+ghost use Rattle.machine.specs.Ranges.{inRanges};
+ghost use Rattle.machine.specs.Acted.{picked, givenUnless, takenUnless, acted, actedOf};
 ghost use Rattle.machine.specs.Reach.{Reach};
 ghost use Rattle.machine.specs.Calls.{
   outcome,
@@ -24,8 +28,6 @@ ghost use Rattle.machine.specs.Calls.{
   giveRefusal,
   giveOf,
   stepRefusal,
-  microStepAt,
-  stepped,
   stepOf,
   wordRefusal,
   pokeOf,
@@ -73,39 +75,77 @@ pub fn start(count: usize, memory: &mut [u8], owners: &mut [u8], holders: &mut [
     Called::answered(Answer::Ready, Machine::all_idle(count, bytes, entries))
 }
 
-fn give_refusal(m: Machine, core: usize, operation: Operation) -> u32
+fn give_refusal(fits: bool, m: Machine, c: Core, core: usize, operation: Operation) -> u32
+    requires { ⌜ fits ≡ inRanges m ⌝ }
+    requires { ⌜ c ≡ picked m core ⌝ }
     ensures { λ r. ⌜ r ≡ giveRefusal m core operation ⌝ }
 {
-    if !ranges::in_ranges(m) {
+    if !fits {
         return 5;
     }
     if m.count <= core {
         return 1;
     }
-    let c = m.core_at(core);
     if c.busy {
         return 7;
     }
     address_refusal(m.bytes, operation.address())
 }
 
-// An operation for an idle core.
+fn given_unless(number: u32, c: Core, operation: Operation) -> Core
+    ensures { λ r. ⌜ r ≡ givenUnless number c operation ⌝ }
+{
+    if number == 0 { c.given(operation) } else { c }
+}
+
+fn taken_unless(number: u32) -> Answer
+    ensures { λ r. ⌜ r ≡ takenUnless number ⌝ }
+{
+    if number == 0 {
+        Answer::Taken
+    } else {
+        Answer::Refused(number)
+    }
+}
+
+// An operation for an idle core. The machine is put together once, refused or not: each other place
+// would copy it.
 pub fn give(m: Machine, core: usize, operation: Operation) -> Called
     ensures number { λ r. ⌜ numberOf (r .answer) ≡ giveRefusal m core operation ⌝ }
     ensures outcome { λ r. ⌜ r ≡ giveOf m core operation ⌝ }
 {
-    let number = give_refusal(m, core, operation);
-    if number != 0 {
-        return Called::refused(number, m);
+    let mut machine = m;
+    let fits = ranges::in_ranges(m);
+    let at = core % 8;
+    let c = machine.cores[at];
+    let number = give_refusal(fits, m, c, core, operation);
+    let next = given_unless(number, c, operation);
+    machine.cores[at] = next;
+    let answer = taken_unless(number);
+    let made = Handed::Nothing;
+    Called {
+        answer,
+        made,
+        machine,
     }
-    let c = m.core_at(core);
-    Called::answered(Answer::Taken, m.with_core(core, c.given(operation)))
 }
 
-fn step_refusal(m: Machine, memory: usize, owners: &[u8], holders: &[u8], core: usize) -> u32
+fn step_refusal(
+    fits: bool,
+    m: Machine,
+    c: Core,
+    e: usize,
+    memory: usize,
+    owners: &[u8],
+    holders: &[u8],
+    core: usize,
+) -> u32
+    requires { ⌜ fits ≡ inRanges m ⌝ }
+    requires { ⌜ c ≡ picked m core ⌝ }
+    requires { ⌜ e ≡ entryOf (m .entries) (c .address) .0 ⌝ }
     ensures { λ r. ⌜ r ≡ stepRefusal m memory (now (owners .entry)) (now (holders .entry)) core ⌝ }
 {
-    if !ranges::in_ranges(m) {
+    if !fits {
         return 5;
     }
     let entries = m.entries;
@@ -115,57 +155,39 @@ fn step_refusal(m: Machine, memory: usize, owners: &[u8], holders: &[u8], core: 
     if m.count <= core {
         return 1;
     }
-    let c = m.core_at(core);
     if !c.busy {
         return 8;
     }
-    let e = entry_of(entries, c.address).0;
     let damaged = ranges::damaged(m.count, core as u8, c, owners[e], holders[e]);
     refuse(damaged, 6, 0)
 }
 
-// The core's micro-step, on what stands at its address and at its entry.
-fn micro_step_at(m: Machine, memory: &[u8], owners: &[u8], holders: &[u8], core: usize) -> MicroStep
-    requires { ⌜ Reach m (length (now memory)) (now owners) (now holders) core ⌝ }
-    ensures { λ r. ⌜ r ≡ microStepAt m (now (memory .entry)) (now (owners .entry)) (now (holders .entry)) core ⌝ }
-{
-    let c = m.core_at(core);
-    let address = c.address;
-    let e = entry_of(m.entries, address).0;
-    let word = word::read_word(memory, address);
-    c.micro_step(core as u8, owners[e], holders[e], word)
-}
-
-// What the micro-step leaves.
-fn stepped(
-    m: Machine,
+// The core's micro-step, on what stands at its address and at its entry, or none if it is refused.
+fn acted(
+    number: u32,
+    c: Core,
+    e: usize,
     memory: &mut [u8],
     owners: &mut [u8],
     holders: &mut [u8],
     core: usize,
-    made: MicroStep,
-) -> Called
-    requires { ⌜ Reach m (length (now memory)) (now owners) (now holders) core ⌝ }
-    ensures { λ r. ⌜ outcome r (now (memory .exit)) (now (owners .exit)) (now (holders .exit)) ≡ stepped m (now (memory .entry)) (now (owners .entry)) (now (holders .entry)) core made ⌝ }
+) -> MicroStep
+    requires { ⌜ (number ≡ 0 → Reach c e (length (now memory)) (now owners) (now holders) core) ⌝ }
+    ensures { λ r. ⌜ acted r (now (memory .exit)) (now (owners .exit)) (now (holders .exit)) ≡ actedOf number c e (now (memory .entry)) (now (owners .entry)) (now (holders .entry)) core ⌝ }
 {
-    let c = m.core_at(core);
-    let address = c.address;
-    let e = entry_of(m.entries, address).0;
-    owners[e] = made.owner;
-    holders[e] = made.holder;
-    word::write_word_if(made.writes, memory, address, c.value);
-    let next = made.core;
-    let machine = m.with_core(core, next);
-    let answer = made.answer;
-    let handed = made.made;
-    Called {
-        answer,
-        made: handed,
-        machine,
+    if number != 0 {
+        return MicroStep::refusing(number, c);
     }
+    let address = c.address;
+    let word = word::read_word(memory, address);
+    let did = c.micro_step(core as u8, owners[e], holders[e], word);
+    owners[e] = did.owner;
+    holders[e] = did.holder;
+    word::write_word_if(did.writes, memory, address, c.value);
+    did
 }
 
-// One micro-step of one core.
+// One micro-step of one core. The machine is put together once, as in `give`.
 pub fn step(
     m: Machine,
     memory: &mut [u8],
@@ -176,12 +198,22 @@ pub fn step(
     ensures number { λ r. ⌜ numberOf (r .answer) ≡ stepRefusal m (length (now (memory .entry))) (now (owners .entry)) (now (holders .entry)) core ⌝ }
     ensures outcome { λ r. ⌜ outcome r (now (memory .exit)) (now (owners .exit)) (now (holders .exit)) ≡ stepOf m (now (memory .entry)) (now (owners .entry)) (now (holders .entry)) core ⌝ }
 {
-    let number = step_refusal(m, memory.len(), owners, holders, core);
-    if number != 0 {
-        return Called::refused(number, m);
+    let mut machine = m;
+    let fits = ranges::in_ranges(m);
+    let at = core % 8;
+    let c = machine.cores[at];
+    let e = entry_of(m.entries, c.address).0;
+    let number = step_refusal(fits, m, c, e, memory.len(), owners, holders, core);
+    let did = acted(number, c, e, memory, owners, holders, core);
+    let next = did.core;
+    machine.cores[at] = next;
+    let answer = did.answer;
+    let made = did.made;
+    Called {
+        answer,
+        made,
+        machine,
     }
-    let made = micro_step_at(m, memory, owners, holders, core);
-    stepped(m, memory, owners, holders, core, made)
 }
 
 fn word_refusal(m: Machine, memory: usize, address: GuestAddress) -> u32

@@ -3,9 +3,7 @@ use crate::answers::Answer;
 use crate::answers::Handed;
 use crate::cores::Core;
 ghost use mathlib.Core.Path.{_≡_};
-ghost use Prim.Native.Nat.{_<_};
-ghost use Rattle.machine.specs.Ranges.{coreAt};
-ghost use Rattle.machine.specs.Calls.{allIdle, withCore, refused, answered};
+ghost use Rattle.machine.specs.Calls.{allIdle, refused, answered};
 
 // The sizes are those of the lent buffers: memory's bytes, and the entries of each table. Laid out as
 // in C, so that a bench can keep one.
@@ -35,21 +33,6 @@ impl Machine {
             bytes,
             entries,
         }
-    }
-
-    pub(crate) fn core_at(self, at: usize) -> Core
-        requires { ⌜ at < 8 ⌝ }
-        ensures { λ r. ⌜ r ≡ coreAt self at ⌝ }
-    {
-        self.cores[at]
-    }
-
-    pub(crate) fn with_core(mut self, at: usize, core: Core) -> Machine
-        requires { ⌜ at < 8 ⌝ }
-        ensures { λ r. ⌜ r ≡ withCore self at core ⌝ }
-    {
-        self.cores[at] = core;
-        self
     }
 }
 

@@ -1,57 +1,48 @@
 -- `machine::calls::give` meets its contract. Assumes nothing.
-use mathlib.Core.Path.{sym, _∙_}
-use Prim.Native.Nat.{_<_}
-use borrow.Author.Tests.{eq-eqb, ne-eqb}
 use borrow.Author.Needs.{needs}
-use Rattle.machine.specs.Calls.{giveOf}
 use Rattle.machine.specs.declared.state.Called.{Called}
-use Rattle.machine.proofs.Accepted.{give-accepted, core-small}
-use Rattle.machine.proofs.Numbers.{give-number, numbered}
+use Rattle.machine.proofs.Acting.{give-acted}
+use Rattle.machine.proofs.Numbers.{numbered, give-number}
 use Rattle.machine.proofs.calls.give.Statement.{statement}
 use Rattle.machine.proofs.calls.give.Tie as tie
 
--- a core that is given an operation is one of the eight
-small : (c : tie.Else1) → c .before .before .args .core < 8
-small c =
-    let a = c .before .before .args in
-    let g = give-accepted (a .m) (a .core) (a .operation) (sym (c .before .give-refusal .ensures) ∙ c .if1 .left) in
-    core-small (a .m) (g .ranges) (g .core-below)
+in-ranges-requires : tie.Need-in-ranges-requires
+in-ranges-requires c κs = search needs
+
+mul-c : tie.Need-mul-c
+mul-c c = search needs
+
+element-copy-out-c : tie.Need-element-copy-out-c
+element-copy-out-c c = search needs
 
 give-refusal-requires : tie.Need-give-refusal-requires
 give-refusal-requires c κs = search needs
 
-refused-requires : tie.Need-refused-requires
-refused-requires c κs = search needs
+given-unless-requires : tie.Need-given-unless-requires
+given-unless-requires c κs = search needs
+
+mul-next : tie.Need-mul-next
+mul-next c = search needs
+
+element-set-from-next : tie.Need-element-set-from-next
+element-set-from-next c = search needs
+
+taken-unless-requires : tie.Need-taken-unless-requires
+taken-unless-requires c κs = search needs
 
 returns : tie.Need-returns
-unfolding giveOf
-returns c = numbered (λ (r : Called). r .answer) (let a = c .before .before .before .args in give-number (a .m) (a .core) (a .operation)) (rw (← c .before .before .give-refusal .ensures, ne-eqb _ _ (c .before .if1 .taken)) (c .refused .ensures))
-
-core-at-requires : tie.Need-core-at-requires
-core-at-requires c κs = small (c)
-
-given-requires : tie.Need-given-requires
-given-requires c κs = search needs
-
-with-core-requires : tie.Need-with-core-requires
-with-core-requires c κs = small (c .before .before)
-
-answered-requires : tie.Need-answered-requires
-answered-requires c κs = search needs
-
-returns-2 : tie.Need-returns-2
-unfolding giveOf
-returns-2 c = numbered (λ (r : Called). r .answer) (let a = c .before .before .before .before .before .before .args in give-number (a .m) (a .core) (a .operation)) (rw (← c .before .before .before .before .before .give-refusal .ensures, eq-eqb _ _ (c .before .before .before .before .if1 .left), c .answered .ensures, c .before .with-core .ensures, c .before .before .given .ensures, c .before .before .before .core-at .ensures))
+returns c = numbered (λ (r : Called). r .answer) (give-number (c .before .before .before .before .before .args .m) (c .before .before .before .before .before .args .core) (c .before .before .before .before .before .args .operation)) (rw (c .taken-unless .ensures, c .before .given-unless .ensures) (give-acted (c .before .before .before .before .before .args .m) (c .before .before .before .before .before .args .core) (c .before .before .before .before .before .args .operation) _ (c .before .before .give-refusal .ensures)))
 
 pub give-spec : {M : Type 1} → statement M
 give-spec =
     tie.close
     (tie.spec
+    in-ranges-requires
+    mul-c
+    element-copy-out-c
     give-refusal-requires
-    refused-requires
-    returns
-    core-at-requires
-    given-requires
-    with-core-requires
-    answered-requires
-    returns-2)
+    given-unless-requires
+    mul-next
+    element-set-from-next
+    taken-unless-requires
+    returns)

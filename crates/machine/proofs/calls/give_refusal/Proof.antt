@@ -1,29 +1,27 @@
 -- `machine::calls::give_refusal` meets its contract. Assumes nothing.
-use mathlib.Core.Path.{_∙_, sym}
+use mathlib.Core.Path.{_∙_, ap, sym}
+use Prim.Native.Nat.{ℕ}
 use borrow.Author.Tests.{le-leb, lt-leb, not-false}
 use borrow.Author.Needs.{needs}
 use Rattle.machine.specs.Calls.{giveRefusal}
+use Rattle.machine.specs.Ranges.{coreAt}
+use Rattle.machine.specs.declared.cores.Core.{Core}
 use Rattle.machine.proofs.Accepted.{core-small}
+use Rattle.machine.proofs.Acting.{own-pick}
 use Rattle.machine.proofs.calls.give_refusal.Statement.{statement}
 use Rattle.machine.proofs.calls.give_refusal.Tie as tie
 
-in-ranges-requires : tie.Need-in-ranges-requires
-in-ranges-requires c κs = search needs
-
 returns : tie.Need-returns
 unfolding giveRefusal
-returns c = rw (← c .before .in-ranges .ensures, c .if1 .taken)
+returns c = rw (← c .before .pre .0, c .if1 .taken)
 
 returns-2 : tie.Need-returns-2
 unfolding giveRefusal
-returns-2 c = rw (← c .before .before .before .in-ranges .ensures, c .before .before .if1 .left, le-leb _ _ (c .if2 .taken))
-
-core-at-requires : tie.Need-core-at-requires
-core-at-requires c κs = core-small (c .before .before .before .before .args .m) (sym (c .before .before .before .in-ranges .ensures) ∙ not-false _ (c .before .before .if1 .left)) (c .if2 .left)
+returns-2 c = rw (← c .before .before .before .pre .0, c .before .before .if1 .left, le-leb _ _ (c .if2 .taken))
 
 returns-3 : tie.Need-returns-3
 unfolding giveRefusal
-returns-3 c = rw (← c .before .before .before .before .before .in-ranges .ensures, c .before .before .before .before .if1 .left, lt-leb _ _ (c .before .before .if2 .left), ← c .before .core-at .ensures, c .if3 .taken)
+returns-3 c = let own = own-pick (core-small (c .before .before .before .before .args .m) (sym (c .before .before .before .before .pre .0) ∙ not-false _ (c .before .before .before .if1 .left)) (c .before .if2 .left)) in rw (← c .before .before .before .before .pre .0, c .before .before .before .if1 .left, lt-leb _ _ (c .before .if2 .left)) (rw (sym (ap (λ (i : ℕ). coreAt (c .before .before .before .before .args .m) i .busy) own) ∙ sym (ap (λ (k : Core). k .busy) (c .before .before .before .before .pre .1)) ∙ c .if3 .taken))
 
 address-requires : tie.Need-address-requires
 address-requires c κs = search needs
@@ -33,17 +31,9 @@ address-refusal-requires c κs = search needs
 
 returns-4 : tie.Need-returns-4
 unfolding giveRefusal
-returns-4 c = rw (← c .before .before .before .before .before .before .before .in-ranges .ensures, c .before .before .before .before .before .before .if1 .left, lt-leb _ _ (c .before .before .before .before .if2 .left), ← c .before .before .before .core-at .ensures, c .before .before .if3 .left, c .address-refusal .ensures, c .before .address .ensures)
+returns-4 c = let own = own-pick (core-small (c .before .before .before .before .before .before .args .m) (sym (c .before .before .before .before .before .before .pre .0) ∙ not-false _ (c .before .before .before .before .before .if1 .left)) (c .before .before .before .if2 .left)) in rw (← c .before .before .before .before .before .before .pre .0, c .before .before .before .before .before .if1 .left, lt-leb _ _ (c .before .before .before .if2 .left), sym (ap (λ (i : ℕ). coreAt (c .before .before .before .before .before .before .args .m) i .busy) own) ∙ sym (ap (λ (k : Core). k .busy) (c .before .before .before .before .before .before .pre .1)) ∙ c .before .before .if3 .left, c .address-refusal .ensures, c .before .address .ensures)
 
 pub give-refusal-spec : {M : Type 1} → statement M
 give-refusal-spec =
     tie.close
-    (tie.spec
-    in-ranges-requires
-    returns
-    returns-2
-    core-at-requires
-    returns-3
-    address-requires
-    address-refusal-requires
-    returns-4)
+    (tie.spec returns returns-2 returns-3 address-requires address-refusal-requires returns-4)

@@ -1,28 +1,36 @@
 -- `machine::calls::step` meets its contract. Assumes nothing.
-use mathlib.Core.Path.{sym, _∙_}
-use lib.ListN.{length}
-use borrow.Author.Tests.{eq-eqb, ne-eqb}
+use mathlib.Core.Path.{refl, ap}
 use borrow.Author.Needs.{needs}
-use Rattle.machine.specs.Reach.{Reach}
-use Rattle.machine.specs.Calls.{Outcome, stepOf}
-use Rattle.machine.proofs.Accepted.{reach, step-accepted}
+use Rattle.machine.specs.Calls.{Outcome}
+use Rattle.machine.specs.declared.entry.EntryNumber.{EntryNumber}
+use Rattle.machine.proofs.Acting.{step-reached, step-left}
 use Rattle.machine.proofs.Numbers.{numbered, step-number}
 use Rattle.machine.proofs.calls.step.Statement.{statement}
 use Rattle.machine.proofs.calls.step.Tie as tie
 
--- the function's entry, seen from where the step is not refused
-abbrev entry : tie.Else1 → tie.Start
-entry c = c .before .before .before .before .before .before .before
+in-ranges-requires : tie.Need-in-ranges-requires
+in-ranges-requires c κs = search needs
 
--- what such a step can reach
-reached : (c : tie.Else1) → Reach (entry c .args .m) (length (entry c .args .memory .now)) (entry c .args .owners .now) (entry c .args .holders .now) (entry c .args .core)
-reached c = reach (step-accepted (entry c .args .m) (length (entry c .args .memory .now)) (entry c .args .owners .now) (entry c .args .holders .now) (entry c .args .core) (sym (c .before .step-refusal .ensures) ∙ c .if1 .left))
+mul-c : tie.Need-mul-c
+mul-c c = search needs
+
+element-copy-out-c : tie.Need-element-copy-out-c
+element-copy-out-c c = search needs
+
+entry-of-requires : tie.Need-entry-of-requires
+entry-of-requires c κs = search needs
 
 step-refusal-requires : tie.Need-step-refusal-requires
-step-refusal-requires c κs = search needs
+step-refusal-requires c κs = (c .before .before .before .before .in-ranges .ensures, (refl, ap (λ (n : EntryNumber). n .0) (c .before .before .entry-of .ensures)))
 
-refused-requires : tie.Need-refused-requires
-refused-requires c κs = search needs
+acted-requires : tie.Need-acted-requires
+acted-requires c κs = λ z. rw (c .before .before .before .before .before .before .entry-of .ensures) (step-reached (c .before .before .before .before .before .before .before .before .before .before .before .before .args .m) (c .before .before .before .before .before .before .before .before .before .before .before .before .args .memory .now) (c .before .before .before .before .before .before .before .before .before .before .before .before .args .owners .now) (c .before .before .before .before .before .before .before .before .before .before .before .before .args .holders .now) (c .before .before .before .before .before .before .before .before .before .before .before .before .args .core) _ (c .before .before .before .step-refusal .ensures) z)
+
+mul-next : tie.Need-mul-next
+mul-next c = search needs
+
+element-set-from-next : tie.Need-element-set-from-next
+element-set-from-next c = search needs
 
 same-length : tie.Need-same-length
 same-length c = search needs
@@ -30,41 +38,25 @@ same-length c = search needs
 same-length-2 : tie.Need-same-length-2
 same-length-2 c = search needs
 
-returns : tie.Need-returns
-unfolding stepOf
-returns c = numbered (λ (o : Outcome). o .called .answer) (let a = c .before .before .before .before .before .before .before .before .args in step-number (a .m) (a .memory .now) (a .owners .now) (a .holders .now) (a .core)) (rw (← c .before .before .step-refusal .ensures, ne-eqb _ _ (c .before .if1 .taken), c .refused .ensures))
-
-micro-step-at-requires : tie.Need-micro-step-at-requires
-micro-step-at-requires c κs = reached (c .before .before .before)
-
-stepped-requires : tie.Need-stepped-requires
-stepped-requires c κs = reached (c .before .before .before .before .before .before .before)
-
 same-length-3 : tie.Need-same-length-3
 same-length-3 c = search needs
 
-same-length-4 : tie.Need-same-length-4
-same-length-4 c = search needs
-
-same-length-5 : tie.Need-same-length-5
-same-length-5 c = search needs
-
-returns-2 : tie.Need-returns-2
-unfolding stepOf
-returns-2 c = numbered (λ (o : Outcome). o .called .answer) (let a = c .before .before .before .before .before .before .before .before .before .before .before .before .before .before .before .before .before .before .before .before .before .args in step-number (a .m) (a .memory .now) (a .owners .now) (a .holders .now) (a .core)) (rw (← c .before .before .before .before .before .before .before .before .before .before .before .before .before .before .before .step-refusal .ensures, eq-eqb _ _ (c .before .before .before .before .before .before .before .before .before .before .before .before .before .before .if1 .left), ← c .before .before .before .before .before .before .before .before .before .before .micro-step-at .ensures) (c .before .before .before .before .before .before .stepped .ensures))
+returns : tie.Need-returns
+returns c = numbered (λ (o : Outcome). o .called .answer) (step-number (c .before .before .before .before .before .before .before .before .before .before .before .before .before .before .before .before .before .before .before .before .args .m) (c .before .before .before .before .before .before .before .before .before .before .before .before .before .before .before .before .before .before .before .before .args .memory .now) (c .before .before .before .before .before .before .before .before .before .before .before .before .before .before .before .before .before .before .before .before .args .owners .now) (c .before .before .before .before .before .before .before .before .before .before .before .before .before .before .before .before .before .before .before .before .args .holders .now) (c .before .before .before .before .before .before .before .before .before .before .before .before .before .before .before .before .before .before .before .before .args .core)) (step-left (c .before .before .before .before .before .before .before .before .before .before .before .before .before .before .before .before .before .before .before .before .args .m) (c .before .before .before .before .before .before .before .before .before .before .before .before .before .before .before .before .before .before .before .before .args .memory .now) (c .before .before .before .before .before .before .before .before .before .before .before .before .before .before .before .before .before .before .before .before .args .owners .now) (c .before .before .before .before .before .before .before .before .before .before .before .before .before .before .before .before .before .before .before .before .args .holders .now) (c .before .before .before .before .before .before .before .before .before .before .before .before .before .before .before .before .before .before .before .before .args .core) _ _ _ (c .before .before .before .before .before .before .before .before .before .before .before .before .before .before .entry-of .ensures) (c .before .before .before .before .before .before .before .before .before .before .before .step-refusal .ensures) (c .before .before .before .before .before .before .before .acted .ensures))
 
 pub step-spec : {M : Type 1} → statement M
 step-spec =
     tie.close
     (tie.spec
+    in-ranges-requires
+    mul-c
+    element-copy-out-c
+    entry-of-requires
     step-refusal-requires
-    refused-requires
+    acted-requires
+    mul-next
+    element-set-from-next
     same-length
     same-length-2
-    returns
-    micro-step-at-requires
-    stepped-requires
     same-length-3
-    same-length-4
-    same-length-5
-    returns-2)
+    returns)
