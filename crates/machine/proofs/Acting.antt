@@ -14,14 +14,16 @@ use Rattle.machine.specs.Word.{readWord}
 use Rattle.machine.specs.Life.{idle, given, microStep}
 use Rattle.machine.specs.Entry.{entryOf}
 use Rattle.machine.specs.Ranges.{coreAt}
-use Rattle.machine.specs.Calls.{Outcome, outcome, withCore, giveRefusal, giveOf, stepRefusal, stepOf, stepped, microStepAt}
+use Rattle.machine.specs.Calls.{Outcome, outcome, answered, withCore, giveRefusal, giveOf, stepRefusal, stepOf, stepped, microStepAt}
 use Rattle.machine.specs.Reach.{Reach}
-use Rattle.machine.specs.Acted.{picked, givenUnless, takenUnless, Acted, acted, refusing, done, actedOf}
+use Rattle.machine.specs.Acted.{picked, givenUnless, takenUnless, Acted, acted, refusing, done, actedOf, turnedOf}
 use Rattle.machine.specs.declared.entry.EntryNumber.{EntryNumber}
 use Rattle.machine.specs.declared.answers.Operation.{Operation}
+use Rattle.machine.specs.declared.answers.Answer.{Answer}
 use Rattle.machine.specs.declared.answers.Answer.the-variants.{Refused, Taken}
 use Rattle.machine.specs.declared.answers.Handed.the-variants.{Nothing}
 use Rattle.machine.specs.declared.cores.Core.{Core}
+use Rattle.machine.specs.declared.cores.MicroStep.{MicroStep}
 use Rattle.machine.specs.declared.state.Machine.{Machine}
 use Rattle.machine.specs.declared.state.Called.{Called}
 use Rattle.machine.proofs.Accepted.{core-small, give-accepted, step-accepted, reach}
@@ -37,43 +39,56 @@ here m p l = p ∙ ap (λ (i : ℕ). coreAt m i) (own-pick l)
 put-back : (m : Machine) (i : ℕ) → withCore m i (coreAt m i) ≡ m
 put-back m i = λ j. record { cores = set-getD (m .cores) i idle j; count = m .count; bytes = m .bytes; entries = m .entries }
 
-module _ (m : Machine) (core : ℕ) where
-  abbrev pub gave : ℕ → ℕ → Operation → Called
-  gave i n o = record { answer = takenUnless n; made = Nothing; machine = withCore m i (givenUnless n (coreAt m i) o) }
+module _ (m : Machine) (core : ℕ) (o : Operation) where
+  abbrev gave : ℕ → Called
+  gave i = answered (takenUnless (giveRefusal m core o)) (withCore m i (givenUnless (giveRefusal m core o) (coreAt m i) o))
 
-  pub give-acted : (o : Operation) (n : ℕ) → n ≡ giveRefusal m core o → gave (core % 8) n o ≡ giveOf m core o
+  give-acted : gave (core % 8) ≡ giveOf m core o
   unfolding giveOf
-  give-acted o n p = go (eqb n 0) refl
+  give-acted = go (eqb (giveRefusal m core o) 0) refl
     where
-      go : (t : Bool) → eqb n 0 ≡ t → gave (core % 8) n o ≡ (if eqb (giveRefusal m core o) 0 then record { answer = Taken; made = Nothing; machine = withCore m core (given (coreAt m core) o) } else record { answer = Refused (giveRefusal m core o); made = Nothing; machine = m })
+      go : (t : Bool) → eqb (giveRefusal m core o) 0 ≡ t → gave (core % 8) ≡ giveOf m core o
       go true e =
-          let g = give-accepted m core o (sym p ∙ eqb-true n 0 e) in
-          rw (own-pick (core-small m (g .ranges) (g .core-below)), ← p, e)
-      go false e = rw (← p, e, put-back m (core % 8))
+          let g = give-accepted m core o (eqb-true (giveRefusal m core o) 0 e) in
+          rw (own-pick (core-small m (g .ranges) (g .core-below)), e)
+      go false e = rw (e, put-back m (core % 8))
 
 module _ (m : Machine) (memory owners holders : List ℕ) (core : ℕ) where
-  abbrev pub left : ℕ → Acted → Outcome
-  left i a = outcome (record { answer = a .step .answer; made = a .step .made; machine = withCore m i (a .step .core) }) (a .memory) (a .owners) (a .holders)
+  abbrev left : Acted → Outcome
+  left a = outcome (record { answer = a .step .answer; made = a .step .made; machine = withCore m (core % 8) (a .step .core) }) (a .memory) (a .owners) (a .holders)
 
-  abbrev pub acts : ℕ → ℕ → Acted
-  acts i n = actedOf n (coreAt m i) (entryOf (m .entries) (coreAt m i .address) .0) memory owners holders core
+  abbrev refusal : ℕ
+  refusal = stepRefusal m (length memory) owners holders core
 
-  pub step-acted : (n : ℕ) → n ≡ stepRefusal m (length memory) owners holders core → left (core % 8) (acts (core % 8) n) ≡ stepOf m memory owners holders core
+  step-acted : left (turnedOf m (picked m core) memory owners holders core) ≡ stepOf m memory owners holders core
   unfolding stepOf stepped microStepAt actedOf
-  step-acted n p = go (eqb n 0) refl
+  step-acted = go (eqb refusal 0) refl
     where
-      go : (t : Bool) → eqb n 0 ≡ t → left (core % 8) (acts (core % 8) n) ≡ stepOf m memory owners holders core
+      go : (t : Bool) → eqb refusal 0 ≡ t → left (turnedOf m (picked m core) memory owners holders core) ≡ stepOf m memory owners holders core
       go true e =
-          let a = step-accepted m (length memory) owners holders core (sym p ∙ eqb-true n 0 e) in
-          rw (own-pick (core-small m (a .ranges) (a .core-below)), ← p, e)
-      go false e = rw (← p, e, put-back m (core % 8))
+          let a = step-accepted m (length memory) owners holders core (eqb-true refusal 0 e) in
+          rw (own-pick (core-small m (a .ranges) (a .core-below)), e)
+      go false e = rw (e, put-back m (core % 8))
 
-  pub step-left : (n : ℕ) (k : EntryNumber) (a : Acted) → k ≡ entryOf (m .entries) (picked m core .address) → n ≡ stepRefusal m (length memory) owners holders core
-      → a ≡ actedOf n (picked m core) (k .0) memory owners holders core → left (core % 8) a ≡ stepOf m memory owners holders core
-  step-left n k a pk pn pa = ap (left (core % 8)) (pa ∙ ap (λ (x : EntryNumber). actedOf n (picked m core) (x .0) memory owners holders core) pk) ∙ step-acted n pn
+  -- a refusal and an entry that are the rules' make the turn that is the rules'
+  pub turned-by : (c : Core) (k : EntryNumber) (n : ℕ) → k ≡ entryOf (m .entries) (c .address) → n ≡ refusal
+      → actedOf n c (k .0) memory owners holders core ≡ turnedOf m c memory owners holders core
+  turned-by c k n pk pn = λ i. actedOf (pn i) c (pk i .0) memory owners holders core
 
   -- what such a step can reach
-  pub step-reached : (n : ℕ) → n ≡ stepRefusal m (length memory) owners holders core → n ≡ 0 → Reach (picked m core) (entryOf (m .entries) (picked m core .address) .0) (length memory) owners holders core
-  step-reached n p z =
-      let a = step-accepted m (length memory) owners holders core (sym p ∙ z) in
-      rw (own-pick (reach a .core-small)) (reach a)
+  pub step-reached : (c : Core) (k : EntryNumber) (n : ℕ) → c ≡ picked m core → k ≡ entryOf (m .entries) (c .address) → n ≡ refusal
+      → n ≡ 0 → Reach c (k .0) (length memory) owners holders core
+  step-reached c k n pc pk pn z =
+      let a = step-accepted m (length memory) owners holders core (sym pn ∙ z) in
+      rw (pk, here m pc (reach a .core-small)) (reach a)
+
+-- the machine in which what a give makes of its core is put in its place is the one that the give leaves
+pub give-put : (m : Machine) (core : ℕ) (o : Operation) (c : Core) (a : Answer) → c ≡ givenUnless (giveRefusal m core o) (picked m core) o → a ≡ takenUnless (giveRefusal m core o)
+    → answered a (withCore m (core % 8) c) ≡ giveOf m core o
+give-put m core o c a pc pa = (λ i. answered (pa i) (withCore m (core % 8) (pc i))) ∙ give-acted m core o
+
+-- and the one in which what a turn makes of its core is put there is the one that the step leaves
+pub step-put : (m : Machine) (memory owners holders memory′ owners′ holders′ : List ℕ) (core : ℕ) (s : MicroStep) → acted s memory′ owners′ holders′ ≡ turnedOf m (picked m core) memory owners holders core
+    → outcome (record { answer = s .answer; made = s .made; machine = withCore m (core % 8) (s .core) }) memory′ owners′ holders′ ≡ stepOf m memory owners holders core
+step-put m memory owners holders memory′ owners′ holders′ core s p =
+    ap (left m memory owners holders core) p ∙ step-acted m memory owners holders core

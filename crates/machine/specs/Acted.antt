@@ -2,12 +2,14 @@
 use Prim.Native.Nat.{ℕ, _%_}
 use mathlib.Core.Bool.{false}
 use mathlib.Core.List.{List}
-use lib.ListN.{getD, set}
+use lib.ListN.{length, getD, set}
 use lib.Dec.{eqb}
 use Rattle.machine.specs.Basics.{if_then_else_}
+use Rattle.machine.specs.Entry.{entryOf}
 use Rattle.machine.specs.Word.{readWord, writeWord}
 use Rattle.machine.specs.Life.{given, microStep}
 use Rattle.machine.specs.Ranges.{coreAt}
+use Rattle.machine.specs.Calls.{stepRefusal}
 use Rattle.machine.specs.declared.answers.Operation.{Operation}
 use Rattle.machine.specs.declared.answers.Answer.{Answer}
 use Rattle.machine.specs.declared.answers.Answer.the-variants.{Refused, Taken}
@@ -48,3 +50,7 @@ unfoldable pub actedOf : ℕ → Core → ℕ → List ℕ → List ℕ → List
 actedOf number c e memory owners holders core =
     if eqb number 0 then done (microStep core c (getD owners e 0) (getD holders e 0) (readWord memory (c .address))) c e memory owners holders
     else acted (refusing number c) memory owners holders
+
+-- the micro-step of a core c of the machine, or its refusal
+abbrev pub turnedOf : Machine → Core → List ℕ → List ℕ → List ℕ → ℕ → Acted
+turnedOf m c memory owners holders core = actedOf (stepRefusal m (length memory) owners holders core) c (entryOf (m .entries) (c .address) .0) memory owners holders core

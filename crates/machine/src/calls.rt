@@ -17,7 +17,7 @@ ghost use Rattle.machine.specs.Basics.{if_then_else_};
 ghost use Rattle.machine.specs.Answers.{numberOf};
 ghost use Rattle.machine.specs.Entry.{entryOf};
 ghost use Rattle.machine.specs.Ranges.{inRanges};
-ghost use Rattle.machine.specs.Acted.{picked, givenUnless, takenUnless, acted, actedOf};
+ghost use Rattle.machine.specs.Acted.{picked, givenUnless, takenUnless, acted, actedOf, turnedOf};
 ghost use Rattle.machine.specs.Reach.{Reach};
 ghost use Rattle.machine.specs.Calls.{
   outcome,
@@ -108,6 +108,26 @@ fn taken_unless(number: u32) -> Answer
     }
 }
 
+// What a give leaves of its core, and its answer.
+pub struct Grant {
+    pub core: Core,
+    pub answer: Answer,
+}
+
+// An operation for the core c, which the number picks, if the rules let it be given.
+pub(crate) fn granted(fits: bool, m: Machine, c: Core, core: usize, operation: Operation) -> Grant
+    requires { ⌜ fits ≡ inRanges m ⌝ }
+    requires { ⌜ c ≡ picked m core ⌝ }
+    ensures { λ r. ⌜ r .core ≡ givenUnless (giveRefusal m core operation) c operation ⌝ }
+    ensures { λ r. ⌜ r .answer ≡ takenUnless (giveRefusal m core operation) ⌝ }
+{
+    let number = give_refusal(fits, m, c, core, operation);
+    Grant {
+        core: given_unless(number, c, operation),
+        answer: taken_unless(number),
+    }
+}
+
 // An operation for an idle core. The machine is put together once, refused or not: each other place
 // would copy it.
 pub fn give(m: Machine, core: usize, operation: Operation) -> Called
@@ -118,10 +138,10 @@ pub fn give(m: Machine, core: usize, operation: Operation) -> Called
     let fits = ranges::in_ranges(m);
     let at = core % 8;
     let c = machine.cores[at];
-    let number = give_refusal(fits, m, c, core, operation);
-    let next = given_unless(number, c, operation);
+    let grant = granted(fits, m, c, core, operation);
+    let next = grant.core;
     machine.cores[at] = next;
-    let answer = taken_unless(number);
+    let answer = grant.answer;
     let made = Handed::Nothing;
     Called {
         answer,
@@ -187,6 +207,26 @@ fn acted(
     did
 }
 
+// The micro-step of the core c, which the number picks, if the rules let it be made.
+pub(crate) fn turned(
+    fits: bool,
+    m: Machine,
+    c: Core,
+    memory: &mut [u8],
+    owners: &mut [u8],
+    holders: &mut [u8],
+    core: usize,
+) -> MicroStep
+    requires { ⌜ fits ≡ inRanges m ⌝ }
+    requires { ⌜ c ≡ picked m core ⌝ }
+    ensures { λ r. ⌜ acted r (now (memory .exit)) (now (owners .exit)) (now (holders .exit)) ≡ turnedOf m c (now (memory .entry)) (now (owners .entry)) (now (holders .entry)) core ⌝ }
+{
+    let address = c.address;
+    let e = entry_of(m.entries, address).0;
+    let number = step_refusal(fits, m, c, e, memory.len(), owners, holders, core);
+    acted(number, c, e, memory, owners, holders, core)
+}
+
 // One micro-step of one core. The machine is put together once, as in `give`.
 pub fn step(
     m: Machine,
@@ -202,9 +242,7 @@ pub fn step(
     let fits = ranges::in_ranges(m);
     let at = core % 8;
     let c = machine.cores[at];
-    let e = entry_of(m.entries, c.address).0;
-    let number = step_refusal(fits, m, c, e, memory.len(), owners, holders, core);
-    let did = acted(number, c, e, memory, owners, holders, core);
+    let did = turned(fits, m, c, memory, owners, holders, core);
     let next = did.core;
     machine.cores[at] = next;
     let answer = did.answer;

@@ -1,9 +1,8 @@
 -- `machine::calls::step` meets its contract. Assumes nothing.
-use mathlib.Core.Path.{refl, ap}
+use mathlib.Core.Path.{refl}
 use borrow.Author.Needs.{needs}
 use Rattle.machine.specs.Calls.{Outcome}
-use Rattle.machine.specs.declared.entry.EntryNumber.{EntryNumber}
-use Rattle.machine.proofs.Acting.{step-reached, step-left}
+use Rattle.machine.proofs.Acting.{step-put}
 use Rattle.machine.proofs.Numbers.{numbered, step-number}
 use Rattle.machine.proofs.calls.step.Statement.{statement}
 use Rattle.machine.proofs.calls.step.Tie as tie
@@ -17,14 +16,8 @@ mul-c c = search needs
 element-copy-out-c : tie.Need-element-copy-out-c
 element-copy-out-c c = search needs
 
-entry-of-requires : tie.Need-entry-of-requires
-entry-of-requires c κs = search needs
-
-step-refusal-requires : tie.Need-step-refusal-requires
-step-refusal-requires c κs = (c .before .before .before .before .in-ranges .ensures, (refl, ap (λ (n : EntryNumber). n .0) (c .before .before .entry-of .ensures)))
-
-acted-requires : tie.Need-acted-requires
-acted-requires c κs = λ z. rw (c .before .before .before .before .before .before .entry-of .ensures) (step-reached (c .before .before .before .before .before .before .before .before .before .before .before .before .args .m) (c .before .before .before .before .before .before .before .before .before .before .before .before .args .memory .now) (c .before .before .before .before .before .before .before .before .before .before .before .before .args .owners .now) (c .before .before .before .before .before .before .before .before .before .before .before .before .args .holders .now) (c .before .before .before .before .before .before .before .before .before .before .before .before .args .core) _ (c .before .before .before .step-refusal .ensures) z)
+turned-requires : tie.Need-turned-requires
+turned-requires c κs = (c .before .before .before .before .in-ranges .ensures, refl)
 
 mul-next : tie.Need-mul-next
 mul-next c = search needs
@@ -42,7 +35,7 @@ same-length-3 : tie.Need-same-length-3
 same-length-3 c = search needs
 
 returns : tie.Need-returns
-returns c = numbered (λ (o : Outcome). o .called .answer) (step-number (c .before .before .before .before .before .before .before .before .before .before .before .before .before .before .before .before .before .before .before .before .args .m) (c .before .before .before .before .before .before .before .before .before .before .before .before .before .before .before .before .before .before .before .before .args .memory .now) (c .before .before .before .before .before .before .before .before .before .before .before .before .before .before .before .before .before .before .before .before .args .owners .now) (c .before .before .before .before .before .before .before .before .before .before .before .before .before .before .before .before .before .before .before .before .args .holders .now) (c .before .before .before .before .before .before .before .before .before .before .before .before .before .before .before .before .before .before .before .before .args .core)) (step-left (c .before .before .before .before .before .before .before .before .before .before .before .before .before .before .before .before .before .before .before .before .args .m) (c .before .before .before .before .before .before .before .before .before .before .before .before .before .before .before .before .before .before .before .before .args .memory .now) (c .before .before .before .before .before .before .before .before .before .before .before .before .before .before .before .before .before .before .before .before .args .owners .now) (c .before .before .before .before .before .before .before .before .before .before .before .before .before .before .before .before .before .before .before .before .args .holders .now) (c .before .before .before .before .before .before .before .before .before .before .before .before .before .before .before .before .before .before .before .before .args .core) _ _ _ (c .before .before .before .before .before .before .before .before .before .before .before .before .before .before .entry-of .ensures) (c .before .before .before .before .before .before .before .before .before .before .before .step-refusal .ensures) (c .before .before .before .before .before .before .before .acted .ensures))
+returns c = numbered (λ (o : Outcome). o .called .answer) (step-number (c .before .before .before .before .before .before .before .before .before .before .before .before .before .before .before .before .args .m) (c .before .before .before .before .before .before .before .before .before .before .before .before .before .before .before .before .args .memory .now) (c .before .before .before .before .before .before .before .before .before .before .before .before .before .before .before .before .args .owners .now) (c .before .before .before .before .before .before .before .before .before .before .before .before .before .before .before .before .args .holders .now) (c .before .before .before .before .before .before .before .before .before .before .before .before .before .before .before .before .args .core)) (step-put (c .before .before .before .before .before .before .before .before .before .before .before .before .before .before .before .before .args .m) (c .before .before .before .before .before .before .before .before .before .before .before .before .before .before .before .before .args .memory .now) (c .before .before .before .before .before .before .before .before .before .before .before .before .before .before .before .before .args .owners .now) (c .before .before .before .before .before .before .before .before .before .before .before .before .before .before .before .before .args .holders .now) _ _ _ (c .before .before .before .before .before .before .before .before .before .before .before .before .before .before .before .before .args .core) _ (c .before .before .before .before .before .before .before .turned .ensures))
 
 pub step-spec : {M : Type 1} → statement M
 step-spec =
@@ -51,9 +44,7 @@ step-spec =
     in-ranges-requires
     mul-c
     element-copy-out-c
-    entry-of-requires
-    step-refusal-requires
-    acted-requires
+    turned-requires
     mul-next
     element-set-from-next
     same-length
