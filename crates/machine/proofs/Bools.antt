@@ -1,6 +1,6 @@
 -- What a test that holds, or a refusal that is not given, says of its parts.
 -- Assumes nothing.
-use mathlib.Core.Path.{_≡_, refl}
+use mathlib.Core.Path.{_≡_, refl, sym}
 use mathlib.Core.Bool.{Bool, true, false, not, _&&_, _||_, true≢false, false≢true}
 use Prim.Native.Nat.{ℕ, suc}
 use native.Mathlib.Omega.{arith}
@@ -15,9 +15,22 @@ and₃ true true c h = (refl, refl, h)
 and₃ true false c h = absurd (false≢true h)
 and₃ false b c h = absurd (false≢true h)
 
+pub and₄ : (a b c d : Bool) → a && b && c && d ≡ true → (a ≡ true) × (b ≡ true) × (c ≡ true) × (d ≡ true)
+and₄ a b c d h = let t = and₂ (a && b && c) d h in let u = and₃ a b c (t .0) in (u .0, u .1, u .2, t .1)
+
 pub or-true : (t : Bool) → t || true ≡ true
 or-true true = refl
 or-true false = refl
+
+pub and-false : (t : Bool) → t && false ≡ false
+and-false true = refl
+and-false false = refl
+
+-- two tests of which each holds where the other does
+pub same : (a b : Bool) → (a ≡ true → b ≡ true) → (b ≡ true → a ≡ true) → a ≡ b
+same true b p q = sym (p refl)
+same false true p q = q refl
+same false false p q = refl
 
 -- a test of what is in use, where it is in use
 pub in-use : (a b : Bool) → a ≡ true → not a || b ≡ true → b ≡ true

@@ -1,6 +1,8 @@
 pub mod Bools
 pub mod Bytes
 pub mod Accepted
+pub mod Powers
+pub mod Looking
 pub mod Numbers
 pub mod Acting
 pub mod Words

@@ -5,6 +5,7 @@ pub mod Word
 pub mod Kinds
 pub mod Life
 pub mod Ranges
+pub mod Looked
 pub mod Answers
 pub mod Calls
 pub mod Place

@@ -25,13 +25,15 @@ fn wide(a: u32) -> usize
     a as usize
 }
 
-// The entry of an address. With no entries at all it is the word's number.
+// The entry of an address. Where the entries are a power of two the division is a mask; with no
+// entries at all the entry is the word's number.
 pub fn entry_of(entries: usize, address: GuestAddress) -> EntryNumber
     ensures { λ r. ⌜ r ≡ entryOf entries address ⌝ }
 {
     let word = address.place() / 4;
-    if entries == 0 {
-        return EntryNumber(word);
+    let below = std::num::wrapping_sub_usize(entries, 1);
+    if entries & below == 0 {
+        return EntryNumber(word & below);
     }
     EntryNumber(word % entries)
 }

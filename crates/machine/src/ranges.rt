@@ -1,22 +1,13 @@
 // The ranges of sizes and of the state, and the damage of a table's entry.
 use crate::cores::Core;
-use crate::entry::GuestAddress;
 use crate::state::Machine;
 ghost use mathlib.Core.Path.{_≡_};
-ghost use Prim.Native.Nat.{_<_};
+ghost use Prim.Native.Nat.{_<_, _%_};
 ghost use Rattle.machine.specs.Sizes.{coresFit, bytesFit, entriesFit, tablesFit};
-ghost use Rattle.machine.specs.Ranges.{
-  sizesFit,
-  operationFields,
-  valueFields,
-  operationFits,
-  inside,
-  addressesFit,
-  coreFits,
-  everyCoreFits,
-  inRanges,
-  damaged,
-};
+ghost use mathlib.Core.Bool.{_&&_};
+ghost use Rattle.machine.specs.Basics.{if_then_else_};
+ghost use Rattle.machine.specs.Ranges.{sizesFit, inRanges, damaged};
+ghost use Rattle.machine.specs.Looked.{canBeAt, spareAre0, coreLooksRight, fitsAt};
 
 pub(crate) fn cores_fit(count: usize) -> bool
     ensures { λ r. ⌜ r ≡ coresFit count ⌝ }
@@ -30,23 +21,12 @@ pub(crate) fn bytes_fit(bytes: usize) -> bool
     (4 <= bytes) & (bytes <= 65536) & (bytes % 4 == 0)
 }
 
-// A comparison with each power of two costs less than a division.
+// A power of two has no bit in common with the number below it.
 pub(crate) fn entries_fit(e: usize) -> bool
     ensures { λ r. ⌜ r ≡ entriesFit e ⌝ }
 {
-    (e == 1)
-        | (e == 2)
-        | (e == 4)
-        | (e == 8)
-        | (e == 16)
-        | (e == 32)
-        | (e == 64)
-        | (e == 128)
-        | (e == 256)
-        | (e == 512)
-        | (e == 1024)
-        | (e == 2048)
-        | (e == 4096)
+    let below = std::num::wrapping_sub_usize(e, 1);
+    (below < 4096) & (e & below == 0)
 }
 
 pub(crate) fn tables_fit(owners: usize, holders: usize) -> bool
@@ -55,76 +35,108 @@ pub(crate) fn tables_fit(owners: usize, holders: usize) -> bool
     entries_fit(owners) & (holders == owners)
 }
 
-fn sizes_fit(m: Machine) -> bool
+pub(crate) fn sizes_fit(m: Machine) -> bool
     ensures { λ r. ⌜ r ≡ sizesFit m ⌝ }
 {
     cores_fit(m.count) & bytes_fit(m.bytes) & entries_fit(m.entries)
 }
 
-fn operation_fields(c: Core) -> bool
-    ensures { λ r. ⌜ r ≡ operationFields c ⌝ }
+// The stages that a core can be at, a bit for each: eight times its operation's number, and its next step.
+const IDLE: u64 = 1;
+// load 1; ll, store and sc 1 to 4.
+const BUSY: u64 = 129354301952;
+// sc 3 and 4, where its step 2 passed.
+const PASSED: u64 = 103079215104;
+// Every stage up to sc 4.
+const ANY: u64 = 137438953471;
+
+fn choose(test: bool, yes: u64, no: u64) -> u64
+    ensures { λ r. ⌜ r ≡ (if test then yes else no) ⌝ }
 {
-    (c.busy | (c.operation == 0)) & (c.busy | (c.next == 0)) & (c.busy | (c.address.0 == 0))
+    if test { yes } else { no }
 }
 
-fn value_fields(c: Core) -> bool
-    ensures { λ r. ⌜ r ≡ valueFields c ⌝ }
+// A field that is not in use, which must be 0.
+fn spare(used: bool, field: u32) -> u32
+    ensures { λ r. ⌜ r ≡ (if used then 0 else field) ⌝ }
 {
-    let uses_value = c.busy & ((c.operation == 3) | (c.operation == 4));
-    let uses_read = c.busy & (c.operation == 2) & (c.next == 4);
-    let uses_passed = c.busy & (c.operation == 4) & ((c.next == 3) | (c.next == 4));
-    (uses_value | (c.value == 0)) & (uses_read | (c.read == 0)) & (uses_passed | !c.passed)
+    if used { 0 } else { field }
 }
 
-fn operation_fits(c: Core) -> bool
-    ensures { λ r. ⌜ r ≡ operationFits c ⌝ }
+// One test of a core's numbers and flags at once.
+fn can_be_at(c: Core, stage: u64) -> bool
+    requires { ⌜ stage < 64 ⌝ }
+    ensures { λ r. ⌜ r ≡ canBeAt (c .busy) (c .passed) stage ⌝ }
 {
-    let occurs = (1 <= c.operation) & (c.operation <= 4);
-    let steps = (c.next == 1) | (!(c.operation == 1) & (2 <= c.next) & (c.next <= 4));
-    !c.busy | (occurs & steps)
+    let stages = choose(c.busy, BUSY, IDLE) & choose(c.passed, PASSED, ANY);
+    (stages >> stage) % 2 == 1
 }
 
-pub(crate) fn inside(bytes: usize, a: GuestAddress) -> bool
-    ensures { λ r. ⌜ r ≡ inside bytes a ⌝ }
+fn spare_are_0(c: Core, stage: u64) -> bool
+    ensures { λ r. ⌜ r ≡ spareAre0 c stage ⌝ }
 {
-    let place = a.place();
-    (a.0 % 4 == 0) & (place < bytes)
+    let value = spare(25 <= stage, c.value);
+    let read = spare(stage == 20, c.read);
+    let address = spare(c.busy, c.address.0);
+    let link = spare(c.linked, c.link.0);
+    (value == 0) & (read == 0) & (address == 0) & (link == 0)
 }
 
-fn addresses_fit(bytes: usize, c: Core) -> bool
-    ensures { λ r. ⌜ r ≡ addressesFit bytes c ⌝ }
+fn core_looks_right(bytes: usize, c: Core) -> bool
+    ensures { λ r. ⌜ r ≡ coreLooksRight bytes c ⌝ }
 {
-    (!c.busy | inside(bytes, c.address)) & (!c.linked | inside(bytes, c.link))
-}
-
-fn core_fits(count: usize, bytes: usize, i: usize, c: Core) -> bool
-    ensures { λ r. ⌜ r ≡ coreFits count bytes i c ⌝ }
-{
-    let link_fields = c.linked | (c.link.0 == 0);
-    let place_fits = (i < count) | !(c.busy | c.linked);
-    (operation_fields(c) & value_fields(c) & link_fields)
-        & (operation_fits(c) & addresses_fit(bytes, c) & place_fits)
-}
-
-fn every_core_fits(m: Machine) -> bool
-    ensures { λ r. ⌜ r ≡ everyCoreFits m ⌝ }
-{
-    let count = m.count;
-    let bytes = m.bytes;
-    let mut all = true;
-    let mut i = 0;
-    while i < 8 {
-        let c = m.cores[i];
-        all = all & core_fits(count, bytes, i, c);
-        i += 1;
+    let address = c.address.0;
+    let link = c.link.0;
+    let stage = 8 * (c.operation as u64) + (c.next as u64);
+    if 7 < c.next {
+        return false;
     }
-    all
+    if 63 < stage {
+        return false;
+    }
+    if !can_be_at(c, stage) {
+        return false;
+    }
+    if !(spare_are_0(c, stage) & (address % 4 == 0) & (link % 4 == 0)) {
+        return false;
+    }
+    if bytes <= address as usize {
+        return false;
+    }
+    if bytes <= link as usize {
+        return false;
+    }
+    true
+}
+
+// Whether the core at a place fits too. It returns at the first test that fails: with one test of all
+// cores the compiler would gather fields of several cores, which costs more than the tests.
+pub(crate) fn fits_after(before: bool, m: Machine, i: usize) -> bool
+    ensures { λ r. ⌜ r ≡ (before && fitsAt m (i % 8)) ⌝ }
+{
+    if !before {
+        return false;
+    }
+    let at = i % 8;
+    let c = m.cores[at];
+    if (m.count <= at) & (c.busy | c.linked) {
+        return false;
+    }
+    core_looks_right(m.bytes, c)
 }
 
 pub(crate) fn in_ranges(m: Machine) -> bool
     ensures { λ r. ⌜ r ≡ inRanges m ⌝ }
 {
-    sizes_fit(m) & every_core_fits(m)
+    let sizes = sizes_fit(m);
+    let to_0 = fits_after(sizes, m, 0);
+    let to_1 = fits_after(to_0, m, 1);
+    let to_2 = fits_after(to_1, m, 2);
+    let to_3 = fits_after(to_2, m, 3);
+    let to_4 = fits_after(to_3, m, 4);
+    let to_5 = fits_after(to_4, m, 5);
+    let to_6 = fits_after(to_5, m, 6);
+    fits_after(to_6, m, 7)
 }
 
 pub(crate) fn damaged(count: usize, me: u8, c: Core, owner: u8, holder: u8) -> bool

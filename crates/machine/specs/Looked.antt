@@ -1,0 +1,58 @@
+-- What the code looks at in a core, in one pass and with a test of several fields at once. It asks of the eight cores what the ranges ask.
+use Prim.Native.Nat.{ℕ, _+_, _*_, _/_, _%_, _^_}
+use mathlib.Core.Bool.{Bool, not, _&&_, _||_}
+use lib.Bits.{bitAnd}
+use lib.Dec.{leb, ltb, eqb}
+use Rattle.machine.specs.Basics.{if_then_else_}
+use Rattle.machine.specs.Ranges.{coreAt}
+use Rattle.machine.specs.declared.cores.Core.{Core}
+use Rattle.machine.specs.declared.state.Machine.{Machine}
+
+-- a core's stage: eight times its operation's number, and its next step
+abbrev pub stageOf : ℕ → ℕ → ℕ
+stageOf operation next = 8 * operation + next
+
+-- the stages that a core can be at, a bit for each: an idle core's
+abbrev pub idleStages : ℕ
+idleStages = 1
+
+-- a busy core's: load 1; ll, store and sc 1 to 4
+abbrev pub busyStages : ℕ
+busyStages = 129354301952
+
+-- sc 3 and 4, where its step 2 passed
+abbrev pub passedStages : ℕ
+passedStages = 103079215104
+
+-- every stage up to sc 4
+abbrev pub anyStages : ℕ
+anyStages = 137438953471
+
+abbrev pub stagesOf : Bool → Bool → ℕ
+stagesOf busy passed = bitAnd (if busy then busyStages else idleStages) (if passed then passedStages else anyStages)
+
+-- the stage's bit is set
+unfoldable pub canBeAt : Bool → Bool → ℕ → Bool
+canBeAt busy passed stage = eqb (stagesOf busy passed / 2 ^ stage % 2) 1
+
+-- a field that is not in use
+abbrev pub spare : Bool → ℕ → ℕ
+spare used field = if used then 0 else field
+
+-- "an unused field not 0": a value is in use from store 1 on, and what ll read at ll 4
+unfoldable pub spareAre0 : Core → ℕ → Bool
+spareAre0 c stage =
+    eqb (spare (leb 25 stage) (c .value)) 0 && eqb (spare (eqb stage 20) (c .read)) 0 && eqb (spare (c .busy) (c .address .0)) 0 && eqb (spare (c .linked) (c .link .0)) 0
+
+-- a stage of the 64 that the core can be at, and its fields there
+unfoldable pub looksRightAt : ℕ → Core → ℕ → Bool
+looksRightAt bytes c stage =
+    leb stage 63 && canBeAt (c .busy) (c .passed) stage && (spareAre0 c stage && eqb (c .address .0 % 4) 0 && eqb (c .link .0 % 4) 0)
+    && ltb (c .address .0) bytes && ltb (c .link .0) bytes
+
+unfoldable pub coreLooksRight : ℕ → Core → Bool
+coreLooksRight bytes c = leb (c .next) 7 && looksRightAt bytes c (stageOf (c .operation) (c .next))
+
+-- what is tested of the core at a place
+unfoldable pub fitsAt : Machine → ℕ → Bool
+fitsAt m i = not (leb (m .count) i && (coreAt m i .busy || coreAt m i .linked)) && coreLooksRight (m .bytes) (coreAt m i)
