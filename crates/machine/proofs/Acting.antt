@@ -36,7 +36,7 @@ pub here : (m : Machine) {core : ℕ} {c : Core} → c ≡ picked m core → cor
 here m p l = p ∙ ap (λ (i : ℕ). coreAt m i) (own-pick l)
 
 -- a machine that has its own core put back
-put-back : (m : Machine) (i : ℕ) → withCore m i (coreAt m i) ≡ m
+pub put-back : (m : Machine) (i : ℕ) → withCore m i (coreAt m i) ≡ m
 put-back m i = λ j. record { cores = set-getD (m .cores) i idle j; count = m .count; bytes = m .bytes; entries = m .entries }
 
 module _ (m : Machine) (core : ℕ) (o : Operation) where

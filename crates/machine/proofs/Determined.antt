@@ -14,15 +14,12 @@ use Rattle.machine.proofs.Lawful.{one-outcome}
 use Rattle.machine.proofs.calls.start as start
 use Rattle.machine.proofs.calls.start.Kinds as start-kinds
 use Rattle.machine.proofs.calls.start.Reads as start-reads
-use Rattle.machine.proofs.calls.give as give
-use Rattle.machine.proofs.calls.give.Kinds as give-kinds
-use Rattle.machine.proofs.calls.give.Reads as give-reads
-use Rattle.machine.proofs.calls.step as step
-use Rattle.machine.proofs.calls.step.Kinds as step-kinds
-use Rattle.machine.proofs.calls.step.Reads as step-reads
-use Rattle.machine.proofs.place.step_through as step-through
-use Rattle.machine.proofs.place.step_through.Kinds as step-through-kinds
-use Rattle.machine.proofs.place.step_through.Reads as step-through-reads
+use Rattle.machine.proofs.place.give as give
+use Rattle.machine.proofs.place.give.Kinds as give-kinds
+use Rattle.machine.proofs.place.give.Reads as give-reads
+use Rattle.machine.proofs.place.step as step
+use Rattle.machine.proofs.place.step.Kinds as step-kinds
+use Rattle.machine.proofs.place.step.Reads as step-reads
 use Rattle.machine.proofs.calls.poke as poke
 use Rattle.machine.proofs.calls.poke.Kinds as poke-kinds
 use Rattle.machine.proofs.calls.poke.Reads as poke-reads
@@ -47,10 +44,6 @@ module _ (κs : Lfts 0) (a : ArgsD give.signature κs) (one other : Called) (s t
 module _ (κs : Lfts 3) (a : ArgsD step.signature κs) (one other : Called) (s t : AtExit (endedOf 3 step-kinds.ps step-kinds.r) κs) where
   pub step-determined : step-reads.Post κs a one s → step-reads.Post κs a other t → outcome one (now (s .1 .0)) (now (s .1 .1 .0)) (now (s .1 .1 .1 .0)) ≡ outcome other (now (t .1 .0)) (now (t .1 .1 .0)) (now (t .1 .1 .1 .0))
   step-determined p q = one-outcome Outcome _ _ _ (p .1) (q .1)
-
-module _ (κs : Lfts 3) (a : ArgsD step-through.signature κs) (one other : Called) (s t : AtExit (endedOf 3 step-through-kinds.ps step-through-kinds.r) κs) where
-  pub step-through-determined : step-through-reads.Post κs a one s → step-through-reads.Post κs a other t → outcome one (now (s .1 .0)) (now (s .1 .1 .0)) (now (s .1 .1 .1 .0)) ≡ outcome other (now (t .1 .0)) (now (t .1 .1 .0)) (now (t .1 .1 .1 .0))
-  step-through-determined p q = one-outcome Outcome _ _ _ (p .1) (q .1)
 
 module _ (κs : Lfts 1) (a : ArgsD poke.signature κs) (one other : Called) (s t : AtExit (endedOf 1 poke-kinds.ps poke-kinds.r) κs) where
   pub poke-determined : poke-reads.Post κs a one s → poke-reads.Post κs a other t → pokeOutcome one (now (s .1 .0)) ≡ pokeOutcome other (now (t .1 .0))

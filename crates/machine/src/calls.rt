@@ -26,9 +26,7 @@ ghost use Rattle.machine.specs.Calls.{
   startRefusal,
   startOf,
   giveRefusal,
-  giveOf,
   stepRefusal,
-  stepOf,
   wordRefusal,
   pokeOf,
   showOf,
@@ -128,28 +126,6 @@ pub(crate) fn granted(fits: bool, m: Machine, c: Core, core: usize, operation: O
     }
 }
 
-// An operation for an idle core. The machine is put together once, refused or not: each other place
-// would copy it.
-pub fn give(m: Machine, core: usize, operation: Operation) -> Called
-    ensures number { λ r. ⌜ numberOf (r .answer) ≡ giveRefusal m core operation ⌝ }
-    ensures outcome { λ r. ⌜ r ≡ giveOf m core operation ⌝ }
-{
-    let mut machine = m;
-    let fits = ranges::in_ranges(m);
-    let at = core % 8;
-    let c = machine.cores[at];
-    let grant = granted(fits, m, c, core, operation);
-    let next = grant.core;
-    machine.cores[at] = next;
-    let answer = grant.answer;
-    let made = Handed::Nothing;
-    Called {
-        answer,
-        made,
-        machine,
-    }
-}
-
 fn step_refusal(
     fits: bool,
     m: Machine,
@@ -225,33 +201,6 @@ pub(crate) fn turned(
     let e = entry_of(m.entries, address).0;
     let number = step_refusal(fits, m, c, e, memory.len(), owners, holders, core);
     acted(number, c, e, memory, owners, holders, core)
-}
-
-// One micro-step of one core. The machine is put together once, as in `give`.
-pub fn step(
-    m: Machine,
-    memory: &mut [u8],
-    owners: &mut [u8],
-    holders: &mut [u8],
-    core: usize,
-) -> Called
-    ensures number { λ r. ⌜ numberOf (r .answer) ≡ stepRefusal m (length (now (memory .entry))) (now (owners .entry)) (now (holders .entry)) core ⌝ }
-    ensures outcome { λ r. ⌜ outcome r (now (memory .exit)) (now (owners .exit)) (now (holders .exit)) ≡ stepOf m (now (memory .entry)) (now (owners .entry)) (now (holders .entry)) core ⌝ }
-{
-    let mut machine = m;
-    let fits = ranges::in_ranges(m);
-    let at = core % 8;
-    let c = machine.cores[at];
-    let did = turned(fits, m, c, memory, owners, holders, core);
-    let next = did.core;
-    machine.cores[at] = next;
-    let answer = did.answer;
-    let made = did.made;
-    Called {
-        answer,
-        made,
-        machine,
-    }
 }
 
 fn word_refusal(m: Machine, memory: usize, address: GuestAddress) -> u32

@@ -1,4 +1,4 @@
--- `step_through` meets its contract: a walk of its MIR, by hand. The machine is copied into a local, the local is lent to `step_in_place` for a lifetime that is made for the call, and comes back at the last value. The slices are passed on for good.
+-- `step` meets its contract: a walk of its MIR, by hand. The machine is copied into a local, the local is lent to `step_in_place` for a lifetime that is made for the call, and comes back at the last value. The slices are passed on for good.
 -- All that the proof knows of `step_in_place` is that it meets its contract.
 -- Assumes nothing.
 use mathlib.Core.Path.{_≡_, refl, ap, subst}
@@ -62,12 +62,12 @@ use Rattle.machine.proofs.answers.Handed as D
 use Rattle.machine.proofs.answers.Handed.Laws as D′
 use Rattle.machine.proofs.state.Machine.step_in_place as step
 use Rattle.machine.proofs.state.Machine.step_in_place.Symbol as step-def
-use Rattle.machine.proofs.state.Machine.step_in_place.Symbol.{name as #step-in-place}
+use Rattle.machine.proofs.state.Machine.step_in_place.Symbol.{name as #in-place}
 use Rattle.machine.proofs.state.Machine.step_in_place.Met as step-thm
-use Rattle.machine.proofs.place.step_through.Key.{name as #step-through}
-use Rattle.machine.proofs.place.step_through as here
-use Rattle.machine.proofs.place.step_through.Statement as stated
-use Rattle.machine.proofs.place.step_through.Code as code
+use Rattle.machine.proofs.place.step.Key.{name as #here}
+use Rattle.machine.proofs.place.step as here
+use Rattle.machine.proofs.place.step.Statement as stated
+use Rattle.machine.proofs.place.step.Code as code
 
 abbrev stayed : Stays (here.ended .signature .params) (here.ended .kept)
 stayed = (stay-none (λ _. T.the-row) yes, (gave-slice (0 ∷ []) tt (plain (λ _. u8)), (gave-slice (1 ∷ []) tt (plain (λ _. u8)), (gave-slice (2 ∷ []) tt (plain (λ _. u8)), (stay-none (λ _. usize) yes, tt)))))
@@ -161,7 +161,7 @@ module _ {M : Type 1} (𝓤 : URA M) (H : Heap 𝓤) (A : Atoms 𝓤) (W : Given
       nothing ! $ owned ! usize (Is usize) (uint-makes 𝓤 H A W w64) n _ (refl, n-fits) $ fjoin ! $ move ! (3 ∷ 0 ∷ []) $ fjoin ! $ move ! (2 ∷ 0 ∷ []) $ fjoin ! $ move ! (1 ∷ 0 ∷ []) $ fjoin ! $
       owned ! T.the-row (Is T.the-row) (LL.makes T.the-type T′.the-plain 𝓤 H A) h _ was $ fjoin ! $ frame ! $ owned ! S.the-row (Is S.the-row) (LL.makes S.the-type S′.the-plain 𝓤 H A) (calledAt r w) _ (made-is r w ri wi) $ done !
 
-  module _ (C : Calls 𝓤 H) (Λ : Loops 𝓤 H) (fm : FmC 𝓤 H (W .laws) C) (known : Triple 𝓤 (C #step-in-place) (Step 𝓤 H A at-mem run)) where
+  module _ (C : Calls 𝓤 H) (Λ : Loops 𝓤 H) (fm : FmC 𝓤 H (W .laws) C) (known : Triple 𝓤 (C #in-place) (Step 𝓤 H A at-mem run)) where
     walk : IsM h → Room u8 (length (x₁ .now)) → Room u8 (length (x₂ .now)) → Room u8 (length (x₃ .now)) → ent 𝓤 (onEntry 𝓤 H A here.signature (κ₁, (κ₂, (κ₃, tt))) (q₁, (q₂, (q₃, tt))) a at) (WpFn 𝓤 H C Λ code.function (T′.lowered h ∷ s x₁ ∷ s x₂ ∷ s x₃ ∷ vint w64 n ∷ []) Post)
     walk was room₁ room₂ room₃ =
         qed W ((‵ (flft κ₁ q₁) ⊛ ‵ (flft κ₂ q₂) ⊛ ‵ (flft κ₃ q₃) ⊛ ‵ ftrue) ∷ ‵ (fsep (T.the-row .own h (T′.lowered h ∷ [])) Lent) ∷ []) ∵ enter ! C Λ code.function (T′.lowered h ∷ s x₁ ∷ s x₂ ∷ s x₃ ∷ vint w64 n ∷ []) _ $
@@ -198,21 +198,21 @@ module _ {M : Type 1} (𝓤 : URA M) (H : Heap 𝓤) (A : Atoms 𝓤) (W : Given
         keep ! (0 ∷ 5 ∷ 4 ∷ 2 ∷ []) $ by ! (exits r (ws .0) (ws .1 .0) (ws .1 .1 .0) (ws .1 .1 .1 .0) e e₁ d₁ d₂ d₃ was (fields-are r _ is) now-is)))))))))))))))))))))))))))))
 
 module _ {M : Type 1} (𝓤 : URA M) (H : Heap 𝓤) (A : Atoms 𝓤) (W : Given 𝓤 H A) (mem : Memory → SProp 𝓤) (run : Routine → Fun 𝓤) where
-  walks : (C : Calls 𝓤 H) (Λ : Loops 𝓤 H) → FmC 𝓤 H (W .laws) C → Triple 𝓤 (C #step-in-place) (Step 𝓤 H A mem run) → Walks 𝓤 H A here.ended stayed (WpFn 𝓤 H C Λ code.function) (here.clauses 𝓤 H A mem run)
+  walks : (C : Calls 𝓤 H) (Λ : Loops 𝓤 H) → FmC 𝓤 H (W .laws) C → Triple 𝓤 (C #in-place) (Step 𝓤 H A mem run) → Walks 𝓤 H A here.ended stayed (WpFn 𝓤 H C Λ code.function) (here.clauses 𝓤 H A mem run)
   walks C Λ fm known = walked 𝓤 H A here.ended stayed (here.clauses 𝓤 H A mem run) (WpFn 𝓤 H C Λ code.function) (λ κs. ((λ d. T′.lowered d ∷ []), (slice-vals, (slice-vals, (slice-vals, (uint-vals w64, tt))))))
       (λ κs. (T′.lowers .val-is, (mut-slice-tells (named 0) (κs .0) u8, (mut-slice-tells (named 1) (κs .1 .0) u8, (mut-slice-tells (named 2) (κs .1 .1 .0) u8, (uint-tells w64, tt))))))
       (λ κs qs bounds a g are. via 𝓤 _ (fst∗ 𝓤 _ (emp 𝓤)) (walk 𝓤 H A W mem run (κs .0) (κs .1 .0) (κs .1 .1 .0) (qs .0) (qs .1 .0) (qs .1 .1 .0) (a .0) (a .1 .0) (a .1 .1 .0) (a .1 .1 .1 .0) (a .1 .1 .1 .1 .0)
       (are .1 .1 .1 .1 .0 .1) C Λ fm known (are .0) (are .1 .0 .0 .1) (are .1 .1 .0 .0 .1) (are .1 .1 .1 .0 .0 .1)))
 
-meets : {M : Type 1} (𝓤 : URA M) (H : Heap 𝓤) (A : Atoms 𝓤) → Given 𝓤 H A → (mem : Memory → SProp 𝓤) (run : Routine → Fun 𝓤) (𝓣 : Tables 𝓤 H) → Triple 𝓤 (𝓣 .C #step-in-place) (Step 𝓤 H A mem run)
+meets : {M : Type 1} (𝓤 : URA M) (H : Heap 𝓤) (A : Atoms 𝓤) → Given 𝓤 H A → (mem : Memory → SProp 𝓤) (run : Routine → Fun 𝓤) (𝓣 : Tables 𝓤 H) → Triple 𝓤 (𝓣 .C #in-place) (Step 𝓤 H A mem run)
     → Meets 𝓤 H A here.signature (WpFn 𝓤 H (𝓣 .C) (𝓣 .Λ) code.function) (here.spec 𝓤 H A mem run)
 meets 𝓤 H A W mem run 𝓣 known = walk-meets 𝓤 H A here.ended stayed W (goes-none 𝓤 H A W 3 (λ _. T.the-row) yes (λ κs x f. refl), (goes-gave-slice 𝓤 H A W 3 0 tt (plain (λ _. u8)), (goes-gave-slice 𝓤 H A W 3 1 tt (plain (λ _. u8)), (goes-gave-slice 𝓤 H A W 3 2 tt (plain (λ _. u8)), (goes-none 𝓤 H A W 3 (λ _. usize) yes (λ κs x f. refl), tt))))) (here.clauses 𝓤 H A mem run)
     (WpFn 𝓤 H (𝓣 .C) (𝓣 .Λ) code.function) (WpFn-mono 𝓤 H (W .laws) 𝓣 code.function) (walks 𝓤 H A W mem run (𝓣 .C) (𝓣 .Λ) (fmOf 𝓤 H (W .laws) 𝓣) known)
 
-pub step-through-spec : {M : Type 1} → stated.statement M
+pub step-spec : {M : Type 1} → stated.statement M
 unfolding code.routine tablesOf
-step-through-spec 𝓤 H 𝓜 𝓖 𝓡 =
+step-spec 𝓤 H 𝓜 𝓖 𝓡 =
     entered 𝓤 H (tripleOf 𝓤 H (𝓖 .A) here.signature (here.spec 𝓤 H (𝓖 .A) (𝓜 .mem) (𝓡 .run)))
-    (tables 𝓤 H 𝓜 𝓡 code.env .C) (tables 𝓤 H 𝓜 𝓡 code.env .Λ) #step-through code.function (code.unfolded 𝓤 H 𝓜 𝓡)
+    (tables 𝓤 H 𝓜 𝓡 code.env .C) (tables 𝓤 H 𝓜 𝓡 code.env .Λ) #here code.function (code.unfolded 𝓤 H 𝓜 𝓡)
     (meets 𝓤 H (𝓖 .A) (givenOf 𝓤 H 𝓜 𝓖) (𝓜 .mem) (𝓡 .run) (tablesOf 𝓤 H 𝓜 (tables 𝓤 H 𝓜 𝓡 code.env))
-    (cited 𝓤 H (Step 𝓤 H (𝓖 .A) (𝓜 .mem) (𝓡 .run)) 𝓜 𝓡 code.env #step-in-place step-def.routine code.calls-machine·state·Machine·step-in-place (step-thm.met 𝓤 H 𝓜 𝓖 𝓡)))
+    (cited 𝓤 H (Step 𝓤 H (𝓖 .A) (𝓜 .mem) (𝓡 .run)) 𝓜 𝓡 code.env #in-place step-def.routine code.calls-machine·state·Machine·step-in-place (step-thm.met 𝓤 H 𝓜 𝓖 𝓡)))
