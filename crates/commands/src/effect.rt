@@ -157,7 +157,7 @@ fn step(
     let b = used(m.bytes, memory.len());
     let o = used(m.entries, owners.len());
     let h = used(m.entries, holders.len());
-    Ran::of(machine::step_through(
+    Ran::of(machine::step(
         m,
         &mut memory[..b],
         &mut owners[..o],

@@ -24,26 +24,26 @@ used-requires-2 c κs = search needs
 used-requires-3 : tie.Need-used-requires-3
 used-requires-3 c κs = search needs
 
-slice-relend-prefix-step-through : tie.Need-slice-relend-prefix-step-through
-slice-relend-prefix-step-through c = search needs
+slice-relend-prefix-step : tie.Need-slice-relend-prefix-step
+slice-relend-prefix-step c = search needs
 
-slice-aggregate-step-through : tie.Need-slice-aggregate-step-through
-slice-aggregate-step-through c = sym (length-take-le (c .before .before .before .used .result) (c .before .before .before .before .before .before .before .before .before .before .args .memory .now) (c .before .before .before .used .ensures .1))
+slice-aggregate-step : tie.Need-slice-aggregate-step
+slice-aggregate-step c = sym (length-take-le (c .before .before .before .used .result) (c .before .before .before .before .before .before .before .before .before .before .args .memory .now) (c .before .before .before .used .ensures .1))
 
-slice-relend-prefix-step-through-2 : tie.Need-slice-relend-prefix-step-through-2
-slice-relend-prefix-step-through-2 c = search needs
+slice-relend-prefix-step-2 : tie.Need-slice-relend-prefix-step-2
+slice-relend-prefix-step-2 c = search needs
 
-slice-aggregate-step-through-2 : tie.Need-slice-aggregate-step-through-2
-slice-aggregate-step-through-2 c = sym (length-take-le (c .before .before .before .used2 .result) (c .before .before .before .before .before .before .before .before .before .before .before .args .owners .now) (c .before .before .before .used2 .ensures .1))
+slice-aggregate-step-2 : tie.Need-slice-aggregate-step-2
+slice-aggregate-step-2 c = sym (length-take-le (c .before .before .before .used2 .result) (c .before .before .before .before .before .before .before .before .before .before .before .args .owners .now) (c .before .before .before .used2 .ensures .1))
 
-slice-relend-prefix-step-through-3 : tie.Need-slice-relend-prefix-step-through-3
-slice-relend-prefix-step-through-3 c = search needs
+slice-relend-prefix-step-3 : tie.Need-slice-relend-prefix-step-3
+slice-relend-prefix-step-3 c = search needs
 
-slice-aggregate-step-through-3 : tie.Need-slice-aggregate-step-through-3
-slice-aggregate-step-through-3 c = sym (length-take-le (c .before .before .before .used3 .result) (c .before .before .before .before .before .before .before .before .before .before .before .before .args .holders .now) (c .before .before .before .used3 .ensures .1))
+slice-aggregate-step-3 : tie.Need-slice-aggregate-step-3
+slice-aggregate-step-3 c = sym (length-take-le (c .before .before .before .used3 .result) (c .before .before .before .before .before .before .before .before .before .before .before .before .args .holders .now) (c .before .before .before .used3 .ensures .1))
 
-step-through-requires : tie.Need-step-through-requires
-step-through-requires c κs = search needs
+step-requires : tie.Need-step-requires
+step-requires c κs = search needs
 
 of-requires : tie.Need-of-requires
 of-requires c κs = search needs
@@ -58,7 +58,7 @@ same-length-3 : tie.Need-same-length-3
 same-length-3 c = search needs
 
 returns-2 : tie.Need-returns-2
-returns-2 c = where-true (c .before .before .before .before .before .before .before .before .before .before .before .before .before .before .before .before .before .before .before .before .args .session .begun) _ _ _ (not-false (c .before .before .before .before .before .before .before .before .before .before .before .before .before .before .before .before .before .before .before .before .args .session .begun) (c .before .before .before .before .before .before .before .before .before .before .before .before .before .before .before .if1 .left)) (after-step (c .before .before .before .before .before .before .before .before .before .before .before .before .before .before .before .before .before .before .before .before .args .session .machine) (c .before .before .before .before .before .before .before .before .before .before .before .before .before .before .before .before .before .before .before .before .args .memory .now) (c .before .before .before .before .before .before .before .before .before .before .before .before .before .before .before .before .before .before .before .before .args .owners .now) (c .before .before .before .before .before .before .before .before .before .before .before .before .before .before .before .before .before .before .before .before .args .holders .now) (c .before .before .before .before .before .before .before .before .before .before .before .before .before .before .before .before .before .before .before .before .args .core) (c .before .before .before .before .before .before .before .before .before .before .before .before .before .used .result) (c .before .before .before .before .before .before .before .before .before .before .before .before .used2 .result) (c .before .before .before .before .before .before .before .before .before .before .before .used3 .result) (c .before .before .before .before .before .before .before .before .before .before .before .before .before .used .ensures .0) (c .before .before .before .before .before .before .before .before .before .before .before .before .used2 .ensures .0) (c .before .before .before .before .before .before .before .before .before .before .before .used3 .ensures .0) (c .before .before .before .before .before .before .before .step-through .result) (c .before .before .before .before .before .before .before .step-through .last .1 .0) (c .before .before .before .before .before .before .before .step-through .last .1 .1 .0) (c .before .before .before .before .before .before .before .step-through .last .1 .1 .1 .0) (c .before .before .before .before .before .before .before .step-through .ensures .1) (c .of .result) (c .of .ensures))
+returns-2 c = where-true (c .before .before .before .before .before .before .before .before .before .before .before .before .before .before .before .before .before .before .before .before .args .session .begun) _ _ _ (not-false (c .before .before .before .before .before .before .before .before .before .before .before .before .before .before .before .before .before .before .before .before .args .session .begun) (c .before .before .before .before .before .before .before .before .before .before .before .before .before .before .before .if1 .left)) (after-step (c .before .before .before .before .before .before .before .before .before .before .before .before .before .before .before .before .before .before .before .before .args .session .machine) (c .before .before .before .before .before .before .before .before .before .before .before .before .before .before .before .before .before .before .before .before .args .memory .now) (c .before .before .before .before .before .before .before .before .before .before .before .before .before .before .before .before .before .before .before .before .args .owners .now) (c .before .before .before .before .before .before .before .before .before .before .before .before .before .before .before .before .before .before .before .before .args .holders .now) (c .before .before .before .before .before .before .before .before .before .before .before .before .before .before .before .before .before .before .before .before .args .core) (c .before .before .before .before .before .before .before .before .before .before .before .before .before .used .result) (c .before .before .before .before .before .before .before .before .before .before .before .before .used2 .result) (c .before .before .before .before .before .before .before .before .before .before .before .used3 .result) (c .before .before .before .before .before .before .before .before .before .before .before .before .before .used .ensures .0) (c .before .before .before .before .before .before .before .before .before .before .before .before .used2 .ensures .0) (c .before .before .before .before .before .before .before .before .before .before .before .used3 .ensures .0) (c .before .before .before .before .before .before .before .step .result) (c .before .before .before .before .before .before .before .step .last .1 .0) (c .before .before .before .before .before .before .before .step .last .1 .1 .0) (c .before .before .before .before .before .before .before .step .last .1 .1 .1 .0) (c .before .before .before .before .before .before .before .step .ensures .1) (c .of .result) (c .of .ensures))
 
 pub step-spec : {M : Type 1} → statement M
 step-spec =
@@ -69,13 +69,13 @@ step-spec =
     used-requires
     used-requires-2
     used-requires-3
-    slice-relend-prefix-step-through
-    slice-aggregate-step-through
-    slice-relend-prefix-step-through-2
-    slice-aggregate-step-through-2
-    slice-relend-prefix-step-through-3
-    slice-aggregate-step-through-3
-    step-through-requires
+    slice-relend-prefix-step
+    slice-aggregate-step
+    slice-relend-prefix-step-2
+    slice-aggregate-step-2
+    slice-relend-prefix-step-3
+    slice-aggregate-step-3
+    step-requires
     of-requires
     same-length
     same-length-2
