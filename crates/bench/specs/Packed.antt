@@ -1,5 +1,6 @@
 -- What crosses to C: an answer as one number, a record as its 16 bytes, an operation as its number.
 use Prim.Native.Nat.{ℕ, _+_, _*_, _%_}
+use mathlib.Core.Bool.{Bool, true, false}
 use mathlib.Core.List.{List}
 use lib.ListN.{replicate}
 use lib.Dec.{eqb}
@@ -22,6 +23,7 @@ use Rattle.archive.specs.declared.answers.Sought.{Sought}
 use Rattle.archive.specs.declared.answers.Sought.the-variants as sought
 use Rattle.bench.specs.declared.packed.Asked.{Asked}
 use Rattle.bench.specs.declared.packed.Asked.the-variants as asked
+use Rattle.bench.specs.declared.packed.Asking.{Asking}
 
 -- bits 0..7 the number, 8..15 which answer it is, 32..63 the value: of an answer that is no refusal, whose number is 0
 abbrev pub done : ℕ → ℕ → ℕ
@@ -96,3 +98,12 @@ askedOf code a value =
     else if eqb code 3 then asked.Known (operation.Store (record { 0 = a }) value)
     else if eqb code 4 then asked.Known (operation.Sc (record { 0 = a }) value)
     else asked.Unknown
+
+-- what the machine is given for it: no machine has the address 1, so that for an unknown number the give is refused
+abbrev pub askingFor : Asked → Asking
+askingFor asked.Unknown = record { known = false; operation = operation.Load (record { 0 = 1 }) }
+askingFor (asked.Known o) = record { known = true; operation = o }
+
+-- .. and what is said of its answer: 9 where the number is unknown
+abbrev pub packedIf : Bool → Answer → ℕ
+packedIf known a = if known then packed a else 9

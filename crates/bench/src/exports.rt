@@ -33,9 +33,9 @@ pub extern "C" fn malthobre_give(
 ) -> u64
     ensures { λ r. ⌜ left r (now (m .exit)) ≡ giveCall (now (m .entry)) core operation address value ⌝ }
 {
-    let s = machines::give(*m, core, operation, address, value);
-    *m = s.machine;
-    s.answer
+    let asking = packed::asking_for(operation, address, value);
+    let answer = m.give_in_place(core, asking.operation);
+    packed::given(asking.known, answer)
 }
 
 #[no_mangle]
@@ -49,9 +49,8 @@ pub extern "C" fn malthobre_step(
 ) -> u64
     ensures { λ r. ⌜ stepLeft r (now (m .exit)) (now (memory .exit)) (now (owners .exit)) (now (holders .exit)) (now (made .exit)) ≡ stepCall (now (m .entry)) (now (memory .entry)) (now (owners .entry)) (now (holders .entry)) core ⌝ }
 {
-    let s = machines::step(*m, memory, owners, holders, core, made);
-    *m = s.machine;
-    s.answer
+    let s = m.step_in_place(memory, owners, holders, core);
+    machines::told(s, made)
 }
 
 #[no_mangle]

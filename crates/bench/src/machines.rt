@@ -1,11 +1,12 @@
 // The machine's calls with numbers and bytes for answers and records, and the machine by value.
 use crate::packed;
-use crate::packed::Asked;
 use machine::Called;
 use machine::GuestAddress;
 use machine::Machine;
+use machine::Stepped;
 ghost use mathlib.Core.Path.{_≡_};
-ghost use Rattle.bench.specs.Machines.{left, leftBy, startLeft, stepLeft, pokeLeft, startCall, giveAsked, giveCall, stepCall, pokeCall, showCall};
+ghost use Rattle.bench.specs.Machines.{left, leftBy, startLeft, pokeLeft, startCall, pokeCall, showCall};
+ghost use Rattle.bench.specs.Packed.{packed, handedBytes};
 
 pub struct MachineLeft {
     pub answer: u64,
@@ -32,38 +33,15 @@ pub(crate) fn start(
     left(machine::start(count, memory, owners, holders))
 }
 
-fn give_asked(m: Machine, core: usize, asked: Asked) -> MachineLeft
-    ensures { λ r. ⌜ left (r .answer) (r .machine) ≡ giveAsked m core asked ⌝ }
+// A stepped machine stays where it is: what is left to tell is the record and the answer.
+pub(crate) fn told(s: Stepped, made: &mut [u8; 16]) -> u64
+    ensures answer { λ r. ⌜ r ≡ packed (s .answer) ⌝ }
+    ensures made { λ _. ⌜ now (made .exit) ≡ handedBytes (s .made) ⌝ }
 {
-    match asked {
-        Asked::Unknown => MachineLeft {
-            answer: 9,
-            machine: m,
-        },
-        Asked::Known(operation) => left(machine::give(m, core, operation)),
-    }
-}
-
-pub(crate) fn give(m: Machine, core: usize, operation: u8, address: u32, value: u32) -> MachineLeft
-    ensures { λ r. ⌜ left (r .answer) (r .machine) ≡ giveCall m core operation address value ⌝ }
-{
-    give_asked(m, core, packed::asked_for(operation, address, value))
-}
-
-pub(crate) fn step(
-    m: Machine,
-    memory: &mut [u8],
-    owners: &mut [u8],
-    holders: &mut [u8],
-    core: usize,
-    made: &mut [u8; 16],
-) -> MachineLeft
-    ensures { λ r. ⌜ stepLeft (r .answer) (r .machine) (now (memory .exit)) (now (owners .exit)) (now (holders .exit)) (now (made .exit)) ≡ stepCall m (now (memory .entry)) (now (owners .entry)) (now (holders .entry)) core ⌝ }
-{
-    let called = machine::step(m, memory, owners, holders, core);
-    let handed = called.made;
+    let handed = s.made;
     *made = packed::handed_bytes(handed);
-    left(called)
+    let given = s.answer;
+    packed::answer(given)
 }
 
 pub(crate) fn poke(

@@ -11,12 +11,18 @@ use machine::Handed;
 use machine::Operation;
 ghost use mathlib.Core.Path.{_≡_};
 ghost use Prim.Native.Nat.{_%_};
-ghost use Rattle.bench.specs.Packed.{done, refusedAt, packed, packedWrote, packedChecked, packedRead, packedWhole, packedSought, noRecord, handedBytes, readBytes, soughtBytes, askedOf};
+ghost use Rattle.bench.specs.Packed.{done, refusedAt, packed, packedWrote, packedChecked, packedRead, packedWhole, packedSought, noRecord, handedBytes, readBytes, soughtBytes, askedOf, askingFor, packedIf};
 
 // What an operation's number asks for.
 pub enum Asked {
     Known(Operation),
     Unknown,
+}
+
+// .. as what is given to the machine, whether the number is known or not.
+pub struct Asking {
+    pub known: bool,
+    pub operation: Operation,
 }
 
 fn wide(x: u32) -> u64
@@ -148,7 +154,7 @@ pub(crate) fn sought_bytes(a: Sought) -> [u8; 16]
     }
 }
 
-pub(crate) fn asked_for(code: u8, a: u32, value: u32) -> Asked
+fn asked_for(code: u8, a: u32, value: u32) -> Asked
     ensures { λ r. ⌜ r ≡ askedOf code a value ⌝ }
 {
     let address = GuestAddress(a);
@@ -165,4 +171,29 @@ pub(crate) fn asked_for(code: u8, a: u32, value: u32) -> Asked
         return Asked::Known(Operation::Sc(address, value));
     }
     Asked::Unknown
+}
+
+pub(crate) fn asking_for(code: u8, a: u32, value: u32) -> Asking
+    ensures { λ r. ⌜ r ≡ askingFor (askedOf code a value) ⌝ }
+{
+    match asked_for(code, a, value) {
+        // 1 is no multiple of 4: no machine has it, so the give is refused and changes nothing.
+        Asked::Unknown => Asking {
+            known: false,
+            operation: Operation::Load(GuestAddress(1)),
+        },
+        Asked::Known(operation) => Asking {
+            known: true,
+            operation,
+        },
+    }
+}
+
+pub(crate) fn given(known: bool, a: Answer) -> u64
+    ensures { λ r. ⌜ r ≡ packedIf known a ⌝ }
+{
+    if known {
+        return answer(a);
+    }
+    9
 }
