@@ -9,7 +9,7 @@ use native.Mathlib.Omega.{arith}
 use lib.ListN.{length, take, drop, length-append, length-take, length-drop}
 use lib.Seq.{take-at, drop-append-add, drop-drop, length-take-le}
 use lib.Dec.{ltb}
-use borrow.Author.Tests.{ltb-true, ltb-false}
+use borrow.Author.Tests.{ltb-true, le-ltb}
 use Rattle.machine.specs.Basics.{if_then_else_}
 use Rattle.commands.specs.Bytes.{putIn}
 use Rattle.commands.specs.Decimal.{digitsBefore, decimal}
@@ -49,6 +49,10 @@ digits-few (suc f) n (suc k) s h = go (ltb 9 n) (digits-few f (n / 10) k ((48 + 
 pub decimal-few : (n k : ℕ) → n < 10 ^ suc k → length (decimal n) ≤ suc k
 unfolding decimal
 decimal-few n k h = let l = digits-few (suc n) n k [] h in omega (arith, l)
+
+pub one-digit : (n : ℕ) → n ≤ 9 → decimal n ≡ (48 + n) ∷ []
+unfolding decimal digitsBefore
+one-digit n l = rw (le-ltb 9 n l)
 
 -- a text is put in at a place, and ends where it ends
 pub record Put (text : List ℕ) (at : ℕ) (out out′ : List ℕ) (end : ℕ) : Type 0 where

@@ -52,13 +52,25 @@ fn put_number(number: u64, out: &mut [u8], at: usize) -> usize
     put(b" ", out, to)
 }
 
-// The number of an answer, and the space after it.
+// A number of one digit, and the space after it.
+fn short_text(digit: u8) -> [u8; 2]
+    requires { ⌜ digit ≤ 9 ⌝ }
+    ensures { λ r. ⌜ r ≡ numberText digit ⌝ }
+{
+    [48 + digit, 32]
+}
+
+// The number of an answer, and the space after it. Nearly every answer's number has one digit, which
+// costs less than a number of any length.
 fn put_answer(number: u32, out: &mut [u8], at: usize) -> usize
     requires { ⌜ at + 11 ≤ length (now out) ⌝ }
     ensures { λ _. ⌜ now (out .exit) ≡ putIn (numberText number) at (now (out .entry)) ⌝ }
     ensures { λ r. ⌜ r ≡ at + length (numberText number) ⌝ }
     ensures { λ r. ⌜ r ≤ at + 11 ⌝ }
 {
+    if number <= 9 {
+        return put(&short_text(number as u8), out, at);
+    }
     put_number(number as u64, out, at)
 }
 
