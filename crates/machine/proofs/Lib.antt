@@ -16,4 +16,4 @@ pub mod Running
 pub mod Transitions
 pub mod Invariant
 pub mod Many
-mod Standing
+pub mod Standing

@@ -52,7 +52,7 @@ use Rattle.bench.specs.Packed.{askedOf, askingFor, packedIf}
 use Rattle.bench.specs.Machines.{left, giveCall}
 use Rattle.bench.specs.declared.packed.Asking.{Asking}
 use Rattle.bench.proofs.Joined.{give-left}
-use Rattle.bench.proofs.Standing.{IsM, machine-lies, machine-stands}
+use Rattle.machine.proofs.Standing.{IsM, machine-lies, machine-stands}
 use Rattle.machine.proofs.state.Machine as T
 use Rattle.machine.proofs.state.Machine.Laws as T′
 use Rattle.machine.proofs.answers.Operation as O

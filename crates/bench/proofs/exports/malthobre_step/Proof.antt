@@ -54,7 +54,7 @@ use Rattle.machine.specs.declared.place.Stepped.{Stepped}
 use Rattle.bench.specs.Packed.{packed, handedBytes}
 use Rattle.bench.specs.Machines.{left, stepLeft, stepCall}
 use Rattle.bench.proofs.Joined.{step-left}
-use Rattle.bench.proofs.Standing.{IsM, machine-lies, machine-stands}
+use Rattle.machine.proofs.Standing.{IsM, machine-lies, machine-stands}
 use Rattle.machine.proofs.state.Machine as T
 use Rattle.machine.proofs.state.Machine.Laws as T′
 use Rattle.machine.proofs.place.Stepped as E
