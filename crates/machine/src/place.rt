@@ -1,4 +1,5 @@
-// The step on the machine where it stands. Both functions are proved by a walk of their code by hand.
+// A give and a step on the machine where it stands, and by value above them. Each function is proved by a walk
+// of its code by hand.
 use crate::answers::Answer;
 use crate::answers::Handed;
 use crate::answers::Operation;
@@ -21,7 +22,8 @@ pub struct Stepped {
 }
 
 impl Machine {
-    // Whether the state is in its ranges, looked at where it stands.
+    // Whether the state is in its ranges, looked at where it stands. One core at a time: a copy of the machine
+    // of which a test reads one core is none.
     fn fits(&mut self) -> bool
         ensures { λ r. ⌜ r ≡ inRanges (now (self .entry)) ⌝ }
         ensures { λ _. ⌜ now (self .exit) ≡ now (self .entry) ⌝ }
