@@ -17,3 +17,4 @@ pub mod Transitions
 pub mod Invariant
 pub mod Many
 pub mod Standing
+mod Lending

@@ -1,7 +1,7 @@
 -- A machine where it stands, in its memory: as a value in its cell, as what lies there, and with one of its cores taken out of it, to be read or written and put back.
 -- The laws are of the kit's `Cut` at the field and of its `focus` at the element, put together for one core. They say nothing of the crate's rules.
 -- Assumes `Given`.
-use mathlib.Core.Path.{_≡_, refl, sym, _∙_, subst}
+use mathlib.Core.Path.{refl, sym, _∙_, subst}
 use Prim.Native.Nat.{ℕ, _+_, _*_, _<_, _%_, _^_}
 use native.Mathlib.Nat.{mod-lt}
 use native.Mathlib.Omega.{arith}

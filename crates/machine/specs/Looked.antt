@@ -1,4 +1,4 @@
--- What the code looks at in a core, in one pass and with a test of several fields at once. It asks of the eight cores what the ranges ask.
+-- No rule of the document: what the code looks at in a core, with a test of several fields at once. Where the sizes fit it asks of the eight cores what `Ranges.antt` asks (`looked` in proofs/Looking.antt), and no public contract cites it.
 use Prim.Native.Nat.{ℕ, _+_, _*_, _/_, _%_, _^_}
 use mathlib.Core.Bool.{Bool, not, _&&_, _||_}
 use lib.Bits.{bitAnd}
