@@ -5,7 +5,7 @@ use archive::Sought;
 use archive::Whole;
 use archive::Wrote;
 use libc::STDOUT_FILENO;
-use machine::Record;
+use rules::Record;
 
 pub(crate) fn number(n: u64) {
     io::write_all(STDOUT_FILENO, b" ");

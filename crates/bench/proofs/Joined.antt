@@ -5,13 +5,13 @@ use Prim.Native.Nat.{ℕ}
 use mathlib.Core.Bool.{not}
 use mathlib.Core.List.{List}
 use lib.Dec.{leb}
-use Rattle.machine.specs.Ranges.{coreAt, inRanges}
-use Rattle.machine.specs.Calls.{Outcome, outcome, PokeOutcome, pokeOutcome, refused, answered, unlessRefused, taken, giveRefusal, giveOf}
-use Rattle.machine.specs.declared.answers.Answer.{Answer}
-use Rattle.machine.specs.declared.answers.Operation.the-variants as operation
-use Rattle.machine.specs.declared.state.Machine.{Machine}
-use Rattle.machine.specs.declared.state.Called.{Called}
-use Rattle.machine.proofs.Numbers.{of-both}
+use Rattle.rules.specs.Ranges.{coreAt, inRanges}
+use Rattle.rules.specs.Calls.{Outcome, outcome, PokeOutcome, pokeOutcome, refused, answered, unlessRefused, taken, giveRefusal, giveOf}
+use Rattle.rules.specs.declared.answers.Answer.{Answer}
+use Rattle.rules.specs.declared.answers.Operation.the-variants as operation
+use Rattle.rules.specs.declared.state.Machine.{Machine}
+use Rattle.rules.specs.declared.state.Called.{Called}
+use Rattle.rules.proofs.Numbers.{of-both}
 use Rattle.archive.specs.Writer.{WriteOutcome, writeOutcome}
 use Rattle.archive.specs.declared.writer.Written.{Written}
 use Rattle.bench.specs.Packed.{packedWrote, handedBytes, askingFor, packedIf}

@@ -3,7 +3,7 @@
 use Prim.Native.Nat.{ℕ, _<_, _+_, _*_, _%_, _/_}
 use mathlib.Core.Path.{_≡_, refl}
 use native.Mathlib.Omega.{arith}
-use Rattle.machine.specs.declared.answers.Answer.the-variants as answer
+use Rattle.rules.specs.declared.answers.Answer.the-variants as answer
 use Rattle.bench.specs.Packed.{done}
 use Rattle.bench.specs.Laws.{EachAnswerUnpacks}
 

@@ -2,8 +2,8 @@
 use Prim.Native.Nat.{ℕ, _<_, _%_, _/_}
 use mathlib.Core.Path.{_≡_}
 use mathlib.Core.List.{List, [], _∷_}
-use Rattle.machine.specs.Answers.{numberOf, valuesOf}
-use Rattle.machine.specs.declared.answers.Answer.{Answer}
+use Rattle.rules.specs.Answers.{numberOf, valuesOf}
+use Rattle.rules.specs.declared.answers.Answer.{Answer}
 use Rattle.bench.specs.Packed.{packed}
 
 abbrev pub numberBits : ℕ → ℕ

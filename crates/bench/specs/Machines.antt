@@ -1,9 +1,9 @@
 -- What the calls on the machine where it stands answer and leave: what the machine's own calls do, packed.
 use Prim.Native.Nat.{ℕ}
 use mathlib.Core.List.{List}
-use Rattle.machine.specs.Calls.{Outcome, PokeOutcome, startOf, giveOf, stepOf, pokeOf, showOf}
-use Rattle.machine.specs.declared.state.Machine.{Machine}
-use Rattle.machine.specs.declared.state.Called.{Called}
+use Rattle.rules.specs.Calls.{Outcome, PokeOutcome, startOf, giveOf, stepOf, pokeOf, showOf}
+use Rattle.rules.specs.declared.state.Machine.{Machine}
+use Rattle.rules.specs.declared.state.Called.{Called}
 use Rattle.bench.specs.Packed.{packed, handedBytes, askedOf}
 use Rattle.bench.specs.declared.packed.Asked.{Asked}
 use Rattle.bench.specs.declared.packed.Asked.the-variants.{Known, Unknown}

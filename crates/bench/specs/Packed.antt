@@ -4,12 +4,12 @@ use mathlib.Core.Bool.{Bool, true, false}
 use mathlib.Core.List.{List}
 use lib.ListN.{replicate}
 use lib.Dec.{eqb}
-use Rattle.machine.specs.Basics.{if_then_else_}
-use Rattle.machine.specs.declared.answers.Answer.{Answer}
-use Rattle.machine.specs.declared.answers.Answer.the-variants as answer
-use Rattle.machine.specs.declared.answers.Handed.{Handed}
-use Rattle.machine.specs.declared.answers.Handed.the-variants as handed
-use Rattle.machine.specs.declared.answers.Operation.the-variants as operation
+use Rattle.rules.specs.Basics.{if_then_else_}
+use Rattle.rules.specs.declared.answers.Answer.{Answer}
+use Rattle.rules.specs.declared.answers.Answer.the-variants as answer
+use Rattle.rules.specs.declared.answers.Handed.{Handed}
+use Rattle.rules.specs.declared.answers.Handed.the-variants as handed
+use Rattle.rules.specs.declared.answers.Operation.the-variants as operation
 use Rattle.archive.specs.Records.{encodeRecord}
 use Rattle.archive.specs.declared.answers.Wrote.{Wrote}
 use Rattle.archive.specs.declared.answers.Wrote.the-variants as wrote

@@ -34,7 +34,7 @@ pub extern "C" fn malthobre_give(
     ensures { λ r. ⌜ left r (now (m .exit)) ≡ giveCall (now (m .entry)) core operation address value ⌝ }
 {
     let asking = packed::asking_for(operation, address, value);
-    let answer = m.give_in_place(core, asking.operation);
+    let answer = machine::give_in_place(m, core, asking.operation);
     packed::given(asking.known, answer)
 }
 
@@ -49,7 +49,7 @@ pub extern "C" fn malthobre_step(
 ) -> u64
     ensures { λ r. ⌜ stepLeft r (now (m .exit)) (now (memory .exit)) (now (owners .exit)) (now (holders .exit)) (now (made .exit)) ≡ stepCall (now (m .entry)) (now (memory .entry)) (now (owners .entry)) (now (holders .entry)) core ⌝ }
 {
-    let s = m.step_in_place(memory, owners, holders, core);
+    let s = machine::step_in_place(m, memory, owners, holders, core);
     machines::told(s, made)
 }
 

@@ -5,9 +5,9 @@ use mathlib.Core.List.{List, [], _∷_, _++_, append-assoc}
 use Prim.Native.Nat.{ℕ, _≤_, _<_}
 use native.Mathlib.Omega.{arith}
 use lib.ListN.{length, length-append}
-use Rattle.machine.specs.Answers.{numberOf, valuesOf}
-use Rattle.machine.specs.declared.answers.Answer.{Answer}
-use Rattle.machine.specs.declared.answers.Answer.the-variants.{Refused, Ready, Taken, Moved, Waits, Load, Ll, Store, Sc, Poked, Word}
+use Rattle.rules.specs.Answers.{numberOf, valuesOf}
+use Rattle.rules.specs.declared.answers.Answer.{Answer}
+use Rattle.rules.specs.declared.answers.Answer.the-variants.{Refused, Ready, Taken, Moved, Waits, Load, Ll, Store, Sc, Poked, Word}
 use Rattle.commands.specs.Bytes.{space, firstField, moreFields, afterField}
 use Rattle.commands.specs.Decimal.{decimal}
 use Rattle.commands.specs.Texts.{loadText, llText, scText, wordText, wordsOf, newline, numberText, answerLine}

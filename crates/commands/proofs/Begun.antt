@@ -9,9 +9,9 @@ use lib.ListN.{length, take, take-append-drop}
 use lib.Seq.{length-take-le}
 use lib.Dec.{eqb, leb}
 use borrow.Author.Tests.{eqb-false, leb-true}
-use Rattle.machine.specs.Basics.{if_then_else_}
-use Rattle.machine.specs.Answers.{numberOf}
-use Rattle.machine.specs.Calls.{Outcome, outcome, refused, allIdle, started, startRefusal, startOf}
+use Rattle.rules.specs.Basics.{if_then_else_}
+use Rattle.rules.specs.Answers.{numberOf}
+use Rattle.rules.specs.Calls.{Outcome, outcome, refused, allIdle, started, startRefusal, startOf}
 use Rattle.commands.specs.Grammar.{commandOf}
 use Rattle.commands.specs.Effect.{After, after, refusedRan, newFits, afterStart, newOf, runCommand, runLine}
 use Rattle.commands.specs.Promises.{Kept, RefusedNewLeaves, Afresh, AcceptedNewStartsAfresh, isNew, NineBeforeTen}

@@ -7,7 +7,7 @@ use Prim.Native.Nat.{ℕ}
 use native.Mathlib.Omega.{arith}
 use types.Run.{OneOf}
 use denote.Enum.Declared.{tagOf}
-use Rattle.machine.specs.declared.entry.GuestAddress.{GuestAddress}
+use Rattle.rules.specs.declared.entry.GuestAddress.{GuestAddress}
 use Rattle.commands.proofs.decimal.Number as number
 use Rattle.commands.specs.declared.decimal.Number.{Number}
 use Rattle.commands.specs.declared.decimal.Number.the-variants as said

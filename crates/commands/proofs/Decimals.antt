@@ -8,7 +8,7 @@ use native.Mathlib.Omega.{arith}
 use lib.ListN.{length, getD}
 use lib.Dec.{eqb, ltb, leb}
 use borrow.Author.Tests.{le-leb, leb-true, ltb-true, ltb-false, ne-eqb}
-use Rattle.machine.specs.Basics.{if_then_else_}
+use Rattle.rules.specs.Basics.{if_then_else_}
 use Rattle.commands.specs.Bytes.{space, firstField, moreFields, afterField}
 use Rattle.commands.specs.Decimal.{largest, isDigit, digitOf, allDigits, valueFrom, numberFrom, numberIn, digitsBefore, decimal}
 use Rattle.commands.specs.declared.decimal.Number.the-variants.{Wrong, Is}

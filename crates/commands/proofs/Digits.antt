@@ -12,7 +12,7 @@ use lib.Seq.{drop-cons, getD-drop}
 use native.Mathlib.Nat.{add-zero}
 use lib.Dec.{eqb, leb, ltb}
 use borrow.Author.Tests.{eq-eqb, ne-eqb, eqb-true, leb-true, leb-false, lt-leb, lt-ltb, le-ltb}
-use Rattle.machine.specs.Basics.{if_then_else_}
+use Rattle.rules.specs.Basics.{if_then_else_}
 use Rattle.commands.specs.Bytes.{space, firstField, moreFields}
 use Rattle.commands.specs.Decimal.{largest, isDigit, digitOf, allDigits, valueFrom, readOn, numberFrom, numberIn, nextPlace, fieldOf}
 use Rattle.commands.specs.declared.decimal.Number.{Number}

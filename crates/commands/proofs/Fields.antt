@@ -10,7 +10,7 @@ use lib.ListN.{length, getD, drop, length-drop, drop-of-length-le}
 use lib.Seq.{drop-cons}
 use lib.Dec.{eqb}
 use borrow.Author.Tests.{eq-eqb, ne-eqb}
-use Rattle.machine.specs.Basics.{if_then_else_}
+use Rattle.rules.specs.Basics.{if_then_else_}
 use Rattle.commands.specs.Bytes.{begins, space, firstField, moreFields, afterField}
 use Rattle.commands.proofs.Bools.{and-assoc}
 

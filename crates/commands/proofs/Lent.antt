@@ -9,11 +9,11 @@ use lib.ListN.{length, take, drop, drop-of-length-le}
 use lib.Seq.{take-all, take-length, drop-length}
 use lib.Dec.{leb}
 use borrow.Author.Tests.{leb-true, leb-false}
-use Rattle.machine.specs.Basics.{if_then_else_}
-use Rattle.machine.specs.Calls.{Outcome, outcome, PokeOutcome, pokeOutcome, startOf, stepOf, pokeOf, showOf}
-use Rattle.machine.specs.declared.entry.GuestAddress.{GuestAddress}
-use Rattle.machine.specs.declared.state.Machine.{Machine}
-use Rattle.machine.specs.declared.state.Called.{Called}
+use Rattle.rules.specs.Basics.{if_then_else_}
+use Rattle.rules.specs.Calls.{Outcome, outcome, PokeOutcome, pokeOutcome, startOf, stepOf, pokeOf, showOf}
+use Rattle.rules.specs.declared.entry.GuestAddress.{GuestAddress}
+use Rattle.rules.specs.declared.state.Machine.{Machine}
+use Rattle.rules.specs.declared.state.Called.{Called}
 use Rattle.commands.specs.Effect.{
   After,
   after,

@@ -9,7 +9,7 @@ use native.Mathlib.Omega.{arith}
 use lib.ListN.{length, drop, length-drop}
 use lib.Seq.{drop-drop}
 use lib.Dec.{eqb}
-use Rattle.machine.specs.Basics.{if_then_else_}
+use Rattle.rules.specs.Basics.{if_then_else_}
 use Rattle.commands.specs.Bytes.{begins, firstField, moreFields, afterField}
 use Rattle.commands.specs.Decimal.{numberIn, nextPlace, fieldOf}
 use Rattle.commands.specs.Grammar.{whereNumber, numbersOf, secondNumber, thirdNumber, giveCommand, operationCommand}

@@ -9,9 +9,9 @@ use native.Mathlib.Omega.{arith}
 use lib.ListN.{length, drop}
 use lib.Dec.{eqb, ltb, leb}
 use borrow.Author.Tests.{eqb-true, eqb-false, leb-true, lt-ltb, not-true}
-use Rattle.machine.specs.Basics.{if_then_else_}
-use Rattle.machine.specs.declared.entry.GuestAddress.{GuestAddress}
-use Rattle.machine.specs.declared.answers.Operation.the-variants.{Load, Ll, Store, Sc}
+use Rattle.rules.specs.Basics.{if_then_else_}
+use Rattle.rules.specs.declared.entry.GuestAddress.{GuestAddress}
+use Rattle.rules.specs.declared.answers.Operation.the-variants.{Load, Ll, Store, Sc}
 use Rattle.commands.specs.Bytes.{begins, space, firstField, moreFields, afterField}
 use Rattle.commands.specs.Decimal.{largest, isDigit, digitOf, allDigits, valueFrom, numberFrom, numberIn, digitsBefore, decimal}
 use Rattle.commands.specs.Grammar.{newWord, giveWord, stepWord, pokeWord, showWord, loadWord, llWord, storeWord, scWord, whereNumber, thirdNumber, secondNumber, numbersOf, stepCommand, withAddress, withValue, newCommand, operationCommand, giveCommand, tooLong, commandOf, operationText, lineOf}

@@ -8,8 +8,8 @@ use native.Mathlib.Omega.{arith}
 use lib.ListN.{length, length-append}
 use lib.Dec.{ltb}
 use borrow.Author.Tests.{le-ltb}
-use Rattle.machine.specs.declared.answers.Operation.{Operation}
-use Rattle.machine.specs.declared.answers.Operation.the-variants.{Load, Ll, Store, Sc}
+use Rattle.rules.specs.declared.answers.Operation.{Operation}
+use Rattle.rules.specs.declared.answers.Operation.the-variants.{Load, Ll, Store, Sc}
 use Rattle.commands.specs.Bytes.{begins, space, firstField, moreFields, afterField}
 use Rattle.commands.specs.Decimal.{numberIn, decimal}
 use Rattle.commands.specs.Grammar.{newWord, giveWord, stepWord, pokeWord, showWord, loadWord, llWord, storeWord, scWord, thirdNumber, secondNumber, numbersOf, operationCommand, giveCommand, commandOf, operationText, lineOf}

@@ -6,8 +6,8 @@ use mathlib.Core.List.{List}
 use Prim.Native.Nat.{ℕ, _+_}
 use lib.ListN.{length, drop}
 use lib.Seq.{drop-drop}
-use Rattle.machine.specs.Basics.{if_then_else_}
-use Rattle.machine.specs.declared.answers.Operation.the-variants.{Load, Ll, Store, Sc}
+use Rattle.rules.specs.Basics.{if_then_else_}
+use Rattle.rules.specs.declared.answers.Operation.the-variants.{Load, Ll, Store, Sc}
 use Rattle.commands.specs.Bytes.{begins}
 use Rattle.commands.specs.Grammar.{
   newWord,

@@ -11,7 +11,7 @@ use lib.ListN.{length, take, drop, set, length-set, length-drop}
 use lib.Seq.{take-all}
 use lib.Dec.{ltb}
 use borrow.Author.Tests.{lt-ltb, le-ltb, ltb-true, ltb-false}
-use Rattle.machine.specs.Basics.{if_then_else_}
+use Rattle.rules.specs.Basics.{if_then_else_}
 use Rattle.commands.specs.Decimal.{digitsBefore, decimal}
 
 -- more turns than digits change nothing

@@ -4,7 +4,7 @@ use mathlib.Core.Bool.{Bool, true, false, not, _&&_}
 use mathlib.Core.List.{List, [], _∷_}
 use lib.ListN.{length, getD, drop}
 use lib.Dec.{leb, ltb, eqb}
-use Rattle.machine.specs.Basics.{if_then_else_}
+use Rattle.rules.specs.Basics.{if_then_else_}
 use Rattle.commands.specs.Bytes.{firstField, moreFields}
 use Rattle.commands.specs.declared.decimal.Number.{Number}
 use Rattle.commands.specs.declared.decimal.Number.the-variants.{Wrong, Is}

@@ -4,15 +4,15 @@ use mathlib.Core.Bool.{Bool, true, false, not, _&&_}
 use mathlib.Core.List.{List, _++_}
 use lib.ListN.{length, take, drop}
 use lib.Dec.{leb, eqb}
-use Rattle.machine.specs.Basics.{if_then_else_}
-use Rattle.machine.specs.Answers.{numberOf}
-use Rattle.machine.specs.Calls.{Outcome, PokeOutcome, allIdle, startOf, giveOf, stepOf, pokeOf, showOf}
-use Rattle.machine.specs.declared.answers.Operation.{Operation}
-use Rattle.machine.specs.declared.answers.Answer.the-variants.{Refused}
-use Rattle.machine.specs.declared.answers.Handed.the-variants.{Nothing}
-use Rattle.machine.specs.declared.entry.GuestAddress.{GuestAddress}
-use Rattle.machine.specs.declared.state.Machine.{Machine}
-use Rattle.machine.specs.declared.state.Called.{Called}
+use Rattle.rules.specs.Basics.{if_then_else_}
+use Rattle.rules.specs.Answers.{numberOf}
+use Rattle.rules.specs.Calls.{Outcome, PokeOutcome, allIdle, startOf, giveOf, stepOf, pokeOf, showOf}
+use Rattle.rules.specs.declared.answers.Operation.{Operation}
+use Rattle.rules.specs.declared.answers.Answer.the-variants.{Refused}
+use Rattle.rules.specs.declared.answers.Handed.the-variants.{Nothing}
+use Rattle.rules.specs.declared.entry.GuestAddress.{GuestAddress}
+use Rattle.rules.specs.declared.state.Machine.{Machine}
+use Rattle.rules.specs.declared.state.Called.{Called}
 use Rattle.commands.specs.Grammar.{commandOf}
 use Rattle.commands.specs.declared.grammar.Command.{Command}
 use Rattle.commands.specs.declared.grammar.Command.the-variants.{NotUnderstood, New, NewWith, Give, Step, Poke, Show}

@@ -4,10 +4,10 @@ use mathlib.Core.Bool.{Bool}
 use mathlib.Core.List.{List, [], _∷_, _++_}
 use lib.ListN.{length, drop}
 use lib.Dec.{ltb}
-use Rattle.machine.specs.Basics.{if_then_else_}
-use Rattle.machine.specs.declared.entry.GuestAddress.{GuestAddress}
-use Rattle.machine.specs.declared.answers.Operation.{Operation}
-use Rattle.machine.specs.declared.answers.Operation.the-variants.{Load, Ll, Store, Sc}
+use Rattle.rules.specs.Basics.{if_then_else_}
+use Rattle.rules.specs.declared.entry.GuestAddress.{GuestAddress}
+use Rattle.rules.specs.declared.answers.Operation.{Operation}
+use Rattle.rules.specs.declared.answers.Operation.the-variants.{Load, Ll, Store, Sc}
 use Rattle.commands.specs.Bytes.{begins, firstField, moreFields, afterField, space}
 use Rattle.commands.specs.Decimal.{numberIn, decimal}
 use Rattle.commands.specs.declared.decimal.Number.{Number}

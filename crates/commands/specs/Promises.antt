@@ -4,13 +4,13 @@ use mathlib.Core.Path.{_≡_}
 use mathlib.Core.Bool.{Bool, true, false}
 use mathlib.Core.List.{List, [], _∷_, _++_}
 use lib.ListN.{length, take, drop, replicate}
-use Rattle.machine.specs.Answers.{numberOf, valuesOf}
-use Rattle.machine.specs.Calls.{allIdle}
-use Rattle.machine.specs.declared.answers.Answer.{Answer}
-use Rattle.machine.specs.declared.answers.Answer.the-variants.{Ready}
-use Rattle.machine.specs.declared.answers.Handed.the-variants.{Nothing}
-use Rattle.machine.specs.declared.answers.Operation.{Operation}
-use Rattle.machine.specs.declared.answers.Operation.the-variants.{Load, Ll, Store, Sc}
+use Rattle.rules.specs.Answers.{numberOf, valuesOf}
+use Rattle.rules.specs.Calls.{allIdle}
+use Rattle.rules.specs.declared.answers.Answer.{Answer}
+use Rattle.rules.specs.declared.answers.Answer.the-variants.{Ready}
+use Rattle.rules.specs.declared.answers.Handed.the-variants.{Nothing}
+use Rattle.rules.specs.declared.answers.Operation.{Operation}
+use Rattle.rules.specs.declared.answers.Operation.the-variants.{Load, Ll, Store, Sc}
 use Rattle.commands.specs.Bytes.{firstField, moreFields, afterField}
 use Rattle.commands.specs.Decimal.{decimal}
 use Rattle.commands.specs.Grammar.{commandOf, lineOf}

@@ -3,10 +3,10 @@ use Prim.Native.Nat.{ℕ, _+_}
 use mathlib.Core.List.{List, [], _∷_, _++_}
 use lib.ListN.{length}
 use lib.Dec.{leb}
-use Rattle.machine.specs.Basics.{if_then_else_}
-use Rattle.machine.specs.Answers.{numberOf}
-use Rattle.machine.specs.declared.answers.Answer.{Answer}
-use Rattle.machine.specs.declared.answers.Answer.the-variants.{Refused, Ready, Taken, Moved, Waits, Load, Ll, Store, Sc, Poked, Word}
+use Rattle.rules.specs.Basics.{if_then_else_}
+use Rattle.rules.specs.Answers.{numberOf}
+use Rattle.rules.specs.declared.answers.Answer.{Answer}
+use Rattle.rules.specs.declared.answers.Answer.the-variants.{Refused, Ready, Taken, Moved, Waits, Load, Ll, Store, Sc, Poked, Word}
 use Rattle.commands.specs.Bytes.{space, putIn}
 use Rattle.commands.specs.Decimal.{decimal}
 

@@ -11,7 +11,7 @@ ghost use mathlib.Core.Path.{_≡_};
 ghost use Prim.Native.Nat.{_≤_};
 ghost use lib.ListN.{length};
 ghost use lib.Dec.{leb};
-ghost use Rattle.machine.specs.Basics.{if_then_else_};
+ghost use Rattle.rules.specs.Basics.{if_then_else_};
 ghost use Rattle.commands.specs.Effect.{
   after,
   noMachine,

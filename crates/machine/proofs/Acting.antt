@@ -5,35 +5,50 @@ use mathlib.Core.Bool.{Bool, true, false}
 use mathlib.Core.List.{List}
 use Prim.Native.Nat.{ℕ, _%_, _<_}
 use native.Mathlib.Nat.{mod-eq-of-lt}
+use native.Mathlib.Omega.{arith}
 use lib.ListN.{length, getD, set}
 use lib.Seq.{set-getD}
 use lib.Dec.{eqb}
 use borrow.Author.Tests.{eqb-true}
-use Rattle.machine.specs.Basics.{if_then_else_}
-use Rattle.machine.specs.Word.{readWord}
-use Rattle.machine.specs.Life.{idle, given, microStep}
-use Rattle.machine.specs.Entry.{entryOf}
-use Rattle.machine.specs.Ranges.{coreAt}
-use Rattle.machine.specs.Calls.{Outcome, outcome, answered, withCore, giveRefusal, giveOf, stepRefusal, stepOf, stepped, microStepAt}
+use Rattle.rules.specs.Basics.{if_then_else_}
+use Rattle.rules.specs.Word.{readWord}
+use Rattle.rules.specs.Life.{idle, given, microStep}
+use Rattle.rules.specs.Entry.{entryOf}
+use Rattle.rules.specs.Ranges.{coreAt}
+use Rattle.rules.specs.Calls.{Outcome, outcome, answered, withCore, entryAt, giveRefusal, giveOf, stepRefusal, stepOf, stepped, microStepAt}
 use Rattle.machine.specs.Reach.{Reach}
 use Rattle.machine.specs.Acted.{picked, givenUnless, takenUnless, Acted, acted, refusing, done, actedOf, turnedOf}
-use Rattle.machine.specs.declared.entry.EntryNumber.{EntryNumber}
-use Rattle.machine.specs.declared.answers.Operation.{Operation}
-use Rattle.machine.specs.declared.answers.Answer.{Answer}
-use Rattle.machine.specs.declared.answers.Answer.the-variants.{Refused, Taken}
-use Rattle.machine.specs.declared.answers.Handed.the-variants.{Nothing}
-use Rattle.machine.specs.declared.cores.Core.{Core}
-use Rattle.machine.specs.declared.cores.MicroStep.{MicroStep}
-use Rattle.machine.specs.declared.state.Machine.{Machine}
-use Rattle.machine.specs.declared.state.Called.{Called}
-use Rattle.machine.proofs.Accepted.{core-small, give-accepted, step-accepted, reach}
+use Rattle.rules.specs.declared.entry.EntryNumber.{EntryNumber}
+use Rattle.rules.specs.declared.answers.Operation.{Operation}
+use Rattle.rules.specs.declared.answers.Answer.{Answer}
+use Rattle.rules.specs.declared.answers.Answer.the-variants.{Refused, Taken}
+use Rattle.rules.specs.declared.answers.Handed.the-variants.{Nothing}
+use Rattle.rules.specs.declared.cores.Core.{Core}
+use Rattle.rules.specs.declared.cores.MicroStep.{MicroStep}
+use Rattle.rules.specs.declared.state.Machine.{Machine}
+use Rattle.rules.specs.declared.state.Called.{Called}
+use Rattle.rules.proofs.Accepted.{sizes-fit, entry-below, core-small, core-fits, fits, word-inside, busy-inside, give-accepted, StepAccepted, step-accepted}
 
 -- one of the eight is picked by its own number
 pub own-pick : {core : ℕ} → core < 8 → core % 8 ≡ core
 own-pick l = mod-eq-of-lt l
 
+-- and so its micro-step is its own
+pub own-step : {core : ℕ} (c : Core) (owner holder word : ℕ) {s : MicroStep} → core < 8 → s ≡ microStep (core % 8) c owner holder word → s ≡ microStep core c owner holder word
+own-step c owner holder word l p = p ∙ ap (λ (me : ℕ). microStep me c owner holder word) (own-pick l)
+
 pub here : (m : Machine) {core : ℕ} {c : Core} → c ≡ picked m core → core < 8 → c ≡ coreAt m core
 here m p l = p ∙ ap (λ (i : ℕ). coreAt m i) (own-pick l)
+
+-- what a step that is not refused can reach
+pub reach : {m : Machine} {memory : ℕ} {owners holders : List ℕ} {core : ℕ} → StepAccepted m memory owners holders core → Reach (coreAt m core) (entryAt m core .0) memory owners holders core
+reach {m} {memory} {owners} {holders} {core} h =
+    let s = sizes-fit m (h .ranges) in
+    let small = core-small m (h .ranges) (h .core-below) in
+    let f = fits (m .count) (m .bytes) core (coreAt m core) (core-fits m (h .ranges) core small) in
+    let w = word-inside (coreAt m core .address) (s .words) (busy-inside (coreAt m core) f (h .busy)) in
+    let e = entry-below (m .entries) (coreAt m core .address) (s .entries) in
+    record { core-small = small; word-there = omega arith; owner-there = omega arith; holder-there = omega arith }
 
 -- a machine that has its own core put back
 pub put-back : (m : Machine) (i : ℕ) → withCore m i (coreAt m i) ≡ m

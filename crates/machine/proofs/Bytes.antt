@@ -6,7 +6,7 @@ use Prim.Native.Nat.{ℕ, _+_, _*_, _/_, _%_, _≤_}
 use native.Mathlib.Omega.{arith}
 use lib.ListN.{length, getD, set, drop, replicate}
 use lib.Seq.{drop-length}
-use Rattle.machine.specs.Word.{readBytes, writeBytes}
+use Rattle.rules.specs.Word.{readBytes, writeBytes}
 
 two : (at : ℕ) → at + 1 + 1 ≡ at + 2
 two at = omega arith

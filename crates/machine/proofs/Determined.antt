@@ -6,11 +6,9 @@ use borrow.Fn.World.{ArgsD}
 use borrow.Fn.Kinds.{endedOf}
 use denote.Triple.Clauses.{AtExit}
 use denote.Ref.{now}
-use Prim.Native.Nat.{ℕ}
-use Rattle.machine.specs.Calls.{Outcome, outcome, PokeOutcome, pokeOutcome}
-use Rattle.machine.specs.declared.entry.EntryNumber.{EntryNumber}
-use Rattle.machine.specs.declared.state.Called.{Called}
-use Rattle.machine.proofs.Lawful.{one-outcome}
+use Rattle.rules.specs.Calls.{Outcome, outcome, PokeOutcome, pokeOutcome}
+use Rattle.rules.specs.declared.state.Called.{Called}
+use Rattle.rules.proofs.Lawful.{one-outcome}
 use Rattle.machine.proofs.calls.start as start
 use Rattle.machine.proofs.calls.start.Kinds as start-kinds
 use Rattle.machine.proofs.calls.start.Reads as start-reads
@@ -26,12 +24,6 @@ use Rattle.machine.proofs.calls.poke.Reads as poke-reads
 use Rattle.machine.proofs.calls.show as show
 use Rattle.machine.proofs.calls.show.Kinds as show-kinds
 use Rattle.machine.proofs.calls.show.Reads as show-reads
-use Rattle.machine.proofs.entry.entry_of as entry-of
-use Rattle.machine.proofs.entry.entry_of.Kinds as entry-of-kinds
-use Rattle.machine.proofs.entry.entry_of.Reads as entry-of-reads
-use Rattle.machine.proofs.answers.Answer.number as number
-use Rattle.machine.proofs.answers.Answer.number.Kinds as number-kinds
-use Rattle.machine.proofs.answers.Answer.number.Reads as number-reads
 
 module _ (κs : Lfts 3) (a : ArgsD start.signature κs) (one other : Called) (s t : AtExit (endedOf 3 start-kinds.ps start-kinds.r) κs) where
   pub start-determined : start-reads.Post κs a one s → start-reads.Post κs a other t → outcome one (now (s .1 .0)) (now (s .1 .1 .0)) (now (s .1 .1 .1 .0)) ≡ outcome other (now (t .1 .0)) (now (t .1 .1 .0)) (now (t .1 .1 .1 .0))
@@ -52,11 +44,3 @@ module _ (κs : Lfts 1) (a : ArgsD poke.signature κs) (one other : Called) (s t
 module _ (κs : Lfts 1) (a : ArgsD show.signature κs) (one other : Called) (s t : AtExit (endedOf 1 show-kinds.ps show-kinds.r) κs) where
   pub show-determined : show-reads.Post κs a one s → show-reads.Post κs a other t → one ≡ other
   show-determined p q = one-outcome Called _ _ _ (p .1) (q .1)
-
-module _ (κs : Lfts 0) (a : ArgsD entry-of.signature κs) (one other : EntryNumber) (s t : AtExit (endedOf 0 entry-of-kinds.ps entry-of-kinds.r) κs) where
-  pub entry-of-determined : entry-of-reads.Post κs a one s → entry-of-reads.Post κs a other t → one ≡ other
-  entry-of-determined p q = one-outcome EntryNumber _ _ _ p q
-
-module _ (κs : Lfts 0) (a : ArgsD number.signature κs) (one other : ℕ) (s t : AtExit (endedOf 0 number-kinds.ps number-kinds.r) κs) where
-  pub number-determined : number-reads.Post κs a one s → number-reads.Post κs a other t → one ≡ other
-  number-determined p q = one-outcome ℕ _ _ _ p q

@@ -18,9 +18,9 @@ use denote.Ref.{RefT, MutRef}
 use denote.Steps.{nothing}
 use denote.Triple.Spec.{tripleOf}
 use denote.Triple.Statement.{Contract}
-use Rattle.machine.specs.declared.state.Machine.{Machine}
-use Rattle.machine.proofs.state.Machine as T
-use Rattle.machine.proofs.state.Machine.fits as fits
+use Rattle.rules.specs.declared.state.Machine.{Machine}
+use Rattle.rules.proofs.state.Machine as T
+use Rattle.machine.proofs.place.fits as fits
 
 abbrev pub Fits : {M : Type 1} (𝓤 : URA M) (H : Heap 𝓤) (A : Atoms 𝓤) (mem : Memory → SProp 𝓤) (run : Routine → Fun 𝓤) → Contract 𝓤
 Fits 𝓤 H A mem run = tripleOf 𝓤 H A fits.signature (fits.spec 𝓤 H A mem run)

@@ -1,20 +1,7 @@
-pub mod Bools
 pub mod Bytes
-pub mod Accepted
-pub mod Powers
 pub mod Looking
-pub mod Numbers
 pub mod Acting
-pub mod Words
-pub mod Kept
-pub mod Kinded
-pub mod Lawful
 pub mod Determined
-pub mod Judging
-pub mod Phases
-pub mod Running
-pub mod Transitions
-pub mod Invariant
 pub mod Many
 pub mod Standing
 mod Lending

@@ -6,15 +6,15 @@ use Prim.Native.Nat.{ℕ, _/_, _%_, _≤_, _<_}
 use native.Mathlib.Omega.{arith}
 use lib.Dec.{leb, ltb, eqb}
 use borrow.Author.Tests.{leb-true, leb-false, eqb-true, lt-ltb, le-ltb, lt-leb, ne-eqb}
-use Rattle.machine.specs.Basics.{if_then_else_, allBelow}
-use Rattle.machine.specs.Sizes.{coresFit, bytesFit, entriesFit}
-use Rattle.machine.specs.Kinds.{isLl, isStore, isSc}
-use Rattle.machine.specs.Ranges.{sizesFit, usesValue, usesRead, usesPassed, inUseOr0, linkFields, operationOccurs, stepOccurs, operationFits, inside, placeFits, coreFits, coreAt, everyCoreFits, inRanges}
+use Rattle.rules.specs.Basics.{if_then_else_, allBelow}
+use Rattle.rules.specs.Sizes.{coresFit, bytesFit, entriesFit}
+use Rattle.rules.specs.Kinds.{isLl, isStore, isSc}
+use Rattle.rules.specs.Ranges.{sizesFit, usesValue, usesRead, usesPassed, inUseOr0, linkFields, operationOccurs, stepOccurs, operationFits, inside, placeFits, coreFits, coreAt, everyCoreFits, inRanges}
 use Rattle.machine.specs.Looked.{stageOf, canBeAt, spare, spareAre0, looksRightAt, coreLooksRight, fitsAt}
-use Rattle.machine.specs.declared.cores.Core.{Core}
-use Rattle.machine.specs.declared.state.Machine.{Machine}
-use Rattle.machine.proofs.Bools.{and₂, and₃, and₄, same, and-false}
-use Rattle.machine.proofs.Accepted.{at-below}
+use Rattle.rules.specs.declared.cores.Core.{Core}
+use Rattle.rules.specs.declared.state.Machine.{Machine}
+use Rattle.rules.proofs.Bools.{and₂, and₃, and₄, same, and-false}
+use Rattle.rules.proofs.Accepted.{at-below}
 
 -- what the ranges ask of a core's operation, next step and flags
 abbrev stageFits : Bool → Bool → ℕ → ℕ → Bool

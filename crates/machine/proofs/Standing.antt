@@ -30,15 +30,15 @@ use borrow.Rule.Slice.Shared.{parts-cells}
 use borrow.Struct.Items.{cut-records}
 use borrow.Struct.Behind.{put-at}
 use borrow.Struct.Way.{Cut}
-use Rattle.machine.specs.Life.{idle}
-use Rattle.machine.specs.Ranges.{coreAt}
-use Rattle.machine.specs.Calls.{withCore}
-use Rattle.machine.specs.declared.cores.Core.{Core}
-use Rattle.machine.specs.declared.state.Machine.{Machine}
-use Rattle.machine.proofs.state.Machine as T
-use Rattle.machine.proofs.state.Machine.Laws as T′
-use Rattle.machine.proofs.cores.Core as C
-use Rattle.machine.proofs.cores.Core.Laws as C′
+use Rattle.rules.specs.Life.{idle}
+use Rattle.rules.specs.Ranges.{coreAt}
+use Rattle.rules.specs.Calls.{withCore}
+use Rattle.rules.specs.declared.cores.Core.{Core}
+use Rattle.rules.specs.declared.state.Machine.{Machine}
+use Rattle.rules.proofs.state.Machine as T
+use Rattle.rules.proofs.state.Machine.Laws as T′
+use Rattle.rules.proofs.cores.Core as C
+use Rattle.rules.proofs.cores.Core.Laws as C′
 
 -- that a machine and a core are spelled by their lowerings
 abbrev pub IsM : Machine → Type 0

@@ -4,19 +4,19 @@ use mathlib.Core.Bool.{false}
 use mathlib.Core.List.{List}
 use lib.ListN.{length, getD, set}
 use lib.Dec.{eqb}
-use Rattle.machine.specs.Basics.{if_then_else_}
-use Rattle.machine.specs.Entry.{entryOf}
-use Rattle.machine.specs.Word.{readWord, writeWord}
-use Rattle.machine.specs.Life.{given, microStep}
-use Rattle.machine.specs.Ranges.{coreAt}
-use Rattle.machine.specs.Calls.{stepRefusal}
-use Rattle.machine.specs.declared.answers.Operation.{Operation}
-use Rattle.machine.specs.declared.answers.Answer.{Answer}
-use Rattle.machine.specs.declared.answers.Answer.the-variants.{Refused, Taken}
-use Rattle.machine.specs.declared.answers.Handed.the-variants.{Nothing}
-use Rattle.machine.specs.declared.cores.Core.{Core}
-use Rattle.machine.specs.declared.cores.MicroStep.{MicroStep}
-use Rattle.machine.specs.declared.state.Machine.{Machine}
+use Rattle.rules.specs.Basics.{if_then_else_}
+use Rattle.rules.specs.Entry.{entryOf}
+use Rattle.rules.specs.Word.{readWord, writeWord}
+use Rattle.rules.specs.Life.{given, microStep}
+use Rattle.rules.specs.Ranges.{coreAt}
+use Rattle.rules.specs.Calls.{stepRefusal}
+use Rattle.rules.specs.declared.answers.Operation.{Operation}
+use Rattle.rules.specs.declared.answers.Answer.{Answer}
+use Rattle.rules.specs.declared.answers.Answer.the-variants.{Refused, Taken}
+use Rattle.rules.specs.declared.answers.Handed.the-variants.{Nothing}
+use Rattle.rules.specs.declared.cores.Core.{Core}
+use Rattle.rules.specs.declared.cores.MicroStep.{MicroStep}
+use Rattle.rules.specs.declared.state.Machine.{Machine}
 
 -- the core that a number picks out of the eight, whatever the number
 abbrev pub picked : Machine → ℕ → Core

@@ -1,17 +1,4 @@
-pub mod Basics
-pub mod Sizes
-pub mod Entry
-pub mod Word
-pub mod Kinds
-pub mod Life
-pub mod Ranges
 pub mod Looked
-pub mod Answers
-pub mod Calls
 pub mod Place
 pub mod Reach
 pub mod Acted
-pub mod Laws
-pub mod History
-pub mod Reference
-pub mod Runs

@@ -3,10 +3,10 @@ use Prim.Native.Nat.{ℕ, _+_, _*_, _/_, _%_, _^_}
 use mathlib.Core.Bool.{Bool, not, _&&_, _||_}
 use lib.Bits.{bitAnd}
 use lib.Dec.{leb, ltb, eqb}
-use Rattle.machine.specs.Basics.{if_then_else_}
-use Rattle.machine.specs.Ranges.{coreAt}
-use Rattle.machine.specs.declared.cores.Core.{Core}
-use Rattle.machine.specs.declared.state.Machine.{Machine}
+use Rattle.rules.specs.Basics.{if_then_else_}
+use Rattle.rules.specs.Ranges.{coreAt}
+use Rattle.rules.specs.declared.cores.Core.{Core}
+use Rattle.rules.specs.declared.state.Machine.{Machine}
 
 -- a core's stage: eight times its operation's number, and its next step
 abbrev pub stageOf : ℕ → ℕ → ℕ

@@ -2,7 +2,7 @@
 use mathlib.Core.List.{List}
 use Prim.Native.Nat.{ℕ, _+_, _≤_, _<_}
 use lib.ListN.{length}
-use Rattle.machine.specs.declared.cores.Core.{Core}
+use Rattle.rules.specs.declared.cores.Core.{Core}
 
 pub record Reach (c : Core) (e memory : ℕ) (owners holders : List ℕ) (core : ℕ) : Type 0 where
   pub core-small : core < 8

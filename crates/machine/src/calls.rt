@@ -1,25 +1,25 @@
 // The five calls. Each works out its refusal first, test by test in the order of the rules.
-use crate::answers::Answer;
-use crate::answers::Handed;
-use crate::answers::Operation;
-use crate::answers::Record;
-use crate::cores::Core;
-use crate::cores::MicroStep;
-use crate::entry::GuestAddress;
-use crate::entry::entry_of;
 use crate::ranges;
-use crate::state::Called;
-use crate::state::Machine;
 use crate::word;
+use rules::Answer;
+use rules::Called;
+use rules::Core;
+use rules::GuestAddress;
+use rules::Handed;
+use rules::Machine;
+use rules::MicroStep;
+use rules::Operation;
+use rules::Record;
+use rules::entry_of;
 ghost use mathlib.Core.Path.{_≡_};
 ghost use lib.ListN.{length};
-ghost use Rattle.machine.specs.Basics.{if_then_else_};
-ghost use Rattle.machine.specs.Answers.{numberOf};
-ghost use Rattle.machine.specs.Entry.{entryOf};
-ghost use Rattle.machine.specs.Ranges.{inRanges};
-ghost use Rattle.machine.specs.Acted.{picked, givenUnless, takenUnless, acted, actedOf, turnedOf};
+ghost use Rattle.rules.specs.Basics.{if_then_else_};
+ghost use Rattle.rules.specs.Answers.{numberOf};
+ghost use Rattle.rules.specs.Entry.{entryOf};
+ghost use Rattle.rules.specs.Ranges.{inRanges};
+ghost use Rattle.machine.specs.Acted.{picked, givenUnless, takenUnless, acted, refusing, actedOf, turnedOf};
 ghost use Rattle.machine.specs.Reach.{Reach};
-ghost use Rattle.machine.specs.Calls.{
+ghost use Rattle.rules.specs.Calls.{
   outcome,
   pokeOutcome,
   addressRefusal,
@@ -158,6 +158,20 @@ fn step_refusal(
     refuse(damaged, 6, 0)
 }
 
+// A step that is refused: the core stays as it is.
+fn refusing(number: u32, core: Core) -> MicroStep
+    ensures { λ r. ⌜ r ≡ refusing number core ⌝ }
+{
+    MicroStep {
+        answer: Answer::Refused(number),
+        made: Handed::Nothing,
+        core,
+        owner: 0,
+        holder: 0,
+        writes: false,
+    }
+}
+
 // The core's micro-step, on what stands at its address and at its entry, or none if it is refused.
 fn acted(
     number: u32,
@@ -172,11 +186,11 @@ fn acted(
     ensures { λ r. ⌜ acted r (now (memory .exit)) (now (owners .exit)) (now (holders .exit)) ≡ actedOf number c e (now (memory .entry)) (now (owners .entry)) (now (holders .entry)) core ⌝ }
 {
     if number != 0 {
-        return MicroStep::refusing(number, c);
+        return refusing(number, c);
     }
     let address = c.address;
     let word = word::read_word(memory, address);
-    let did = c.micro_step(core as u8, owners[e], holders[e], word);
+    let did = c.micro_step(core, owners[e], holders[e], word);
     owners[e] = did.owner;
     holders[e] = did.holder;
     word::write_word_if(did.writes, memory, address, c.value);

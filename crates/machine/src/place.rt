@@ -1,18 +1,18 @@
 // A give and a step on the machine where it stands, and by value above them. Each function is proved by a walk
 // of its code by hand.
-use crate::answers::Answer;
-use crate::answers::Handed;
-use crate::answers::Operation;
 use crate::calls::granted;
 use crate::calls::turned;
 use crate::ranges;
-use crate::state::Called;
-use crate::state::Machine;
+use rules::Answer;
+use rules::Called;
+use rules::Handed;
+use rules::Machine;
+use rules::Operation;
 ghost use mathlib.Core.Path.{_≡_};
 ghost use lib.ListN.{length};
-ghost use Rattle.machine.specs.Answers.{numberOf};
-ghost use Rattle.machine.specs.Calls.{outcome, answered, giveRefusal, giveOf, stepRefusal, stepOf};
-ghost use Rattle.machine.specs.Ranges.{inRanges};
+ghost use Rattle.rules.specs.Answers.{numberOf};
+ghost use Rattle.rules.specs.Calls.{outcome, answered, giveRefusal, giveOf, stepRefusal, stepOf};
+ghost use Rattle.rules.specs.Ranges.{inRanges};
 ghost use Rattle.machine.specs.Place.{calledAt};
 
 // What a step in place hands back: the machine stays where it is.
@@ -21,57 +21,55 @@ pub struct Stepped {
     pub made: Handed,
 }
 
-impl Machine {
-    // Whether the state is in its ranges, looked at where it stands. One core at a time: a copy of the machine
-    // of which a test reads one core is none.
-    fn fits(&mut self) -> bool
-        ensures { λ r. ⌜ r ≡ inRanges (now (self .entry)) ⌝ }
-        ensures { λ _. ⌜ now (self .exit) ≡ now (self .entry) ⌝ }
-    {
-        let sizes = ranges::sizes_fit(*self);
-        let to_0 = ranges::fits_after(sizes, *self, 0);
-        let to_1 = ranges::fits_after(to_0, *self, 1);
-        let to_2 = ranges::fits_after(to_1, *self, 2);
-        let to_3 = ranges::fits_after(to_2, *self, 3);
-        let to_4 = ranges::fits_after(to_3, *self, 4);
-        let to_5 = ranges::fits_after(to_4, *self, 5);
-        let to_6 = ranges::fits_after(to_5, *self, 6);
-        ranges::fits_after(to_6, *self, 7)
-    }
+// Whether the state is in its ranges, looked at where it stands. One core at a time: a copy of the machine
+// of which a test reads one core is none.
+pub(crate) fn fits(machine: &mut Machine) -> bool
+    ensures { λ r. ⌜ r ≡ inRanges (now (machine .entry)) ⌝ }
+    ensures { λ _. ⌜ now (machine .exit) ≡ now (machine .entry) ⌝ }
+{
+    let sizes = ranges::sizes_fit(*machine);
+    let to_0 = ranges::fits_after(sizes, *machine, 0);
+    let to_1 = ranges::fits_after(to_0, *machine, 1);
+    let to_2 = ranges::fits_after(to_1, *machine, 2);
+    let to_3 = ranges::fits_after(to_2, *machine, 3);
+    let to_4 = ranges::fits_after(to_3, *machine, 4);
+    let to_5 = ranges::fits_after(to_4, *machine, 5);
+    let to_6 = ranges::fits_after(to_5, *machine, 6);
+    ranges::fits_after(to_6, *machine, 7)
+}
 
-    // An operation for an idle core, which leaves the machine as `give` hands it back.
-    pub fn give_in_place(&mut self, core: usize, operation: Operation) -> Answer
-        ensures number { λ r. ⌜ numberOf r ≡ giveRefusal (now (self .entry)) core operation ⌝ }
-        ensures outcome { λ r. ⌜ answered r (now (self .exit)) ≡ giveOf (now (self .entry)) core operation ⌝ }
-    {
-        let fits = self.fits();
-        let at = core % 8;
-        let c = self.cores[at];
-        let granted = granted(fits, *self, c, core, operation);
-        self.cores[at] = granted.core;
-        granted.answer
-    }
+// An operation for an idle core, which leaves the machine as `give` hands it back.
+pub fn give_in_place(machine: &mut Machine, core: usize, operation: Operation) -> Answer
+    ensures number { λ r. ⌜ numberOf r ≡ giveRefusal (now (machine .entry)) core operation ⌝ }
+    ensures outcome { λ r. ⌜ answered r (now (machine .exit)) ≡ giveOf (now (machine .entry)) core operation ⌝ }
+{
+    let fits = fits(machine);
+    let at = core % 8;
+    let c = machine.cores[at];
+    let granted = granted(fits, *machine, c, core, operation);
+    machine.cores[at] = granted.core;
+    granted.answer
+}
 
-    // One micro-step of one core, which leaves the machine as `step` hands it back.
-    pub fn step_in_place(
-        &mut self,
-        memory: &mut [u8],
-        owners: &mut [u8],
-        holders: &mut [u8],
-        core: usize,
-    ) -> Stepped
-        ensures number { λ r. ⌜ numberOf (r .answer) ≡ stepRefusal (now (self .entry)) (length (now (memory .entry))) (now (owners .entry)) (now (holders .entry)) core ⌝ }
-        ensures outcome { λ r. ⌜ outcome (calledAt r (now (self .exit))) (now (memory .exit)) (now (owners .exit)) (now (holders .exit)) ≡ stepOf (now (self .entry)) (now (memory .entry)) (now (owners .entry)) (now (holders .entry)) core ⌝ }
-    {
-        let fits = self.fits();
-        let at = core % 8;
-        let c = self.cores[at];
-        let did = turned(fits, *self, c, memory, owners, holders, core);
-        self.cores[at] = did.core;
-        Stepped {
-            answer: did.answer,
-            made: did.made,
-        }
+// One micro-step of one core, which leaves the machine as `step` hands it back.
+pub fn step_in_place(
+    machine: &mut Machine,
+    memory: &mut [u8],
+    owners: &mut [u8],
+    holders: &mut [u8],
+    core: usize,
+) -> Stepped
+    ensures number { λ r. ⌜ numberOf (r .answer) ≡ stepRefusal (now (machine .entry)) (length (now (memory .entry))) (now (owners .entry)) (now (holders .entry)) core ⌝ }
+    ensures outcome { λ r. ⌜ outcome (calledAt r (now (machine .exit))) (now (memory .exit)) (now (owners .exit)) (now (holders .exit)) ≡ stepOf (now (machine .entry)) (now (memory .entry)) (now (owners .entry)) (now (holders .entry)) core ⌝ }
+{
+    let fits = fits(machine);
+    let at = core % 8;
+    let c = machine.cores[at];
+    let did = turned(fits, *machine, c, memory, owners, holders, core);
+    machine.cores[at] = did.core;
+    Stepped {
+        answer: did.answer,
+        made: did.made,
     }
 }
 
@@ -81,7 +79,7 @@ pub fn give(m: Machine, core: usize, operation: Operation) -> Called
     ensures outcome { λ r. ⌜ r ≡ giveOf m core operation ⌝ }
 {
     let mut machine = m;
-    let answer = machine.give_in_place(core, operation);
+    let answer = give_in_place(&mut machine, core, operation);
     Called::answered(answer, machine)
 }
 
@@ -97,7 +95,7 @@ pub fn step(
     ensures outcome { λ r. ⌜ outcome r (now (memory .exit)) (now (owners .exit)) (now (holders .exit)) ≡ stepOf m (now (memory .entry)) (now (owners .entry)) (now (holders .entry)) core ⌝ }
 {
     let mut machine = m;
-    let stepped = machine.step_in_place(memory, owners, holders, core);
+    let stepped = step_in_place(&mut machine, memory, owners, holders, core);
     Called {
         answer: stepped.answer,
         made: stepped.made,

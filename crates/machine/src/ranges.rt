@@ -1,12 +1,12 @@
 // The ranges of sizes and of the state, and the damage of a table's entry.
-use crate::cores::Core;
-use crate::state::Machine;
+use rules::Core;
+use rules::Machine;
 ghost use mathlib.Core.Path.{_≡_};
 ghost use Prim.Native.Nat.{_<_, _%_};
-ghost use Rattle.machine.specs.Sizes.{coresFit, bytesFit, entriesFit, tablesFit};
+ghost use Rattle.rules.specs.Sizes.{coresFit, bytesFit, entriesFit, tablesFit};
 ghost use mathlib.Core.Bool.{_&&_};
-ghost use Rattle.machine.specs.Basics.{if_then_else_};
-ghost use Rattle.machine.specs.Ranges.{sizesFit, inRanges, damaged};
+ghost use Rattle.rules.specs.Basics.{if_then_else_};
+ghost use Rattle.rules.specs.Ranges.{sizesFit, inRanges, damaged};
 ghost use Rattle.machine.specs.Looked.{canBeAt, spareAre0, coreLooksRight, fitsAt};
 
 pub(crate) fn cores_fit(count: usize) -> bool

@@ -1,10 +1,10 @@
 // Words of guest memory, which is lent as bytes: four bytes a word, the lowest first.
-use crate::entry::GuestAddress;
+use rules::GuestAddress;
 ghost use mathlib.Core.Path.{_≡_};
 ghost use Prim.Native.Nat.{_+_, _<_, _≤_};
 ghost use lib.ListN.{length, replicate};
-ghost use Rattle.machine.specs.Basics.{if_then_else_};
-ghost use Rattle.machine.specs.Word.{readWord, writeWord};
+ghost use Rattle.rules.specs.Basics.{if_then_else_};
+ghost use Rattle.rules.specs.Word.{readWord, writeWord};
 
 fn wide(x: u8) -> u32
     ensures { λ r. ⌜ r ≡ x ⌝ }

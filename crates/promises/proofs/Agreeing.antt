@@ -2,12 +2,12 @@
 -- Assumes nothing.
 use mathlib.Core.Logic.{inl, inr}
 use mathlib.Core.List.{List}
-use Rattle.machine.specs.declared.answers.Operation.{Operation}
-use Rattle.machine.specs.declared.answers.Operation.the-variants as Asked
-use Rattle.machine.specs.declared.answers.Answer.{Answer}
-use Rattle.machine.proofs.Phases.{Phase, rests, loads, asks, holds, reaches, leaves, operationOf, answerAt}
-use Rattle.machine.proofs.Running.{ListsOk}
-use Rattle.machine.proofs.Invariant.{run-inv}
+use Rattle.rules.specs.declared.answers.Operation.{Operation}
+use Rattle.rules.specs.declared.answers.Operation.the-variants as Asked
+use Rattle.rules.specs.declared.answers.Answer.{Answer}
+use Rattle.rules.proofs.Phases.{Phase, rests, loads, asks, holds, reaches, leaves, operationOf, answerAt}
+use Rattle.rules.proofs.Running.{ListsOk}
+use Rattle.rules.proofs.Invariant.{run-inv}
 use Rattle.promises.specs.Demand3.{AtMostOneMore, Demand3}
 
 answers : (p : Phase) (gs os : List Operation) (ds ans : List Answer) → ListsOk p gs ds os ans → AtMostOneMore ans ds

@@ -8,26 +8,26 @@ use native.Mathlib.Omega.{arith}
 use lib.ListN.{length, replicate, length-reverse}
 use lib.Dec.{eqb, leb}
 use borrow.Author.Tests.{eqb-true, eqb-false, eq-eqb, le-leb, lt-ltb}
-use Rattle.machine.specs.Basics.{if_then_else_}
-use Rattle.machine.specs.Word.{readWord}
-use Rattle.machine.specs.Kinds.{addressOf, valueOf, pokeCore, pokeKind}
-use Rattle.machine.specs.Answers.{numberOf}
-use Rattle.machine.specs.Calls.{Outcome}
-use Rattle.machine.specs.Laws.{Bytes}
-use Rattle.machine.specs.History.{History, succeeds}
-use Rattle.machine.specs.Reference.{Whole, does, pokes, Reference, refer, finish, scDone, scFailed}
-use Rattle.machine.specs.Runs.{Call, give, step, poke, Fresh, act, after, records, givenTo, lastOf, atAccess, inOrder, entryRule}
-use Rattle.machine.specs.declared.entry.GuestAddress.{GuestAddress}
-use Rattle.machine.specs.declared.entry.EntryNumber.{EntryNumber}
-use Rattle.machine.specs.declared.answers.Operation.{Operation}
-use Rattle.machine.specs.declared.answers.Operation.the-variants as Asked
-use Rattle.machine.specs.declared.answers.Handed.{Handed}
-use Rattle.machine.specs.declared.answers.Handed.the-variants.{Nothing, One}
-use Rattle.machine.proofs.Accepted.{Inside, sizes-fit, core-small, give-accepted, step-accepted, word-accepted}
-use Rattle.machine.proofs.Numbers.{start-number, give-number, step-number, poke-number}
-use Rattle.machine.proofs.Words.{word-laws}
-use Rattle.machine.proofs.Lawful.{refusal-laws, range-laws}
-use Rattle.machine.proofs.Invariant.{run-inv}
+use Rattle.rules.specs.Basics.{if_then_else_}
+use Rattle.rules.specs.Word.{readWord}
+use Rattle.rules.specs.Kinds.{addressOf, valueOf, pokeCore, pokeKind}
+use Rattle.rules.specs.Answers.{numberOf}
+use Rattle.rules.specs.Calls.{Outcome}
+use Rattle.rules.specs.Laws.{Bytes}
+use Rattle.rules.specs.History.{History, succeeds}
+use Rattle.rules.specs.Reference.{Whole, does, pokes, Reference, refer, finish, scDone, scFailed}
+use Rattle.rules.specs.Runs.{Call, give, step, poke, Fresh, act, after, records, givenTo, lastOf, atAccess, inOrder, entryRule}
+use Rattle.rules.specs.declared.entry.GuestAddress.{GuestAddress}
+use Rattle.rules.specs.declared.entry.EntryNumber.{EntryNumber}
+use Rattle.rules.specs.declared.answers.Operation.{Operation}
+use Rattle.rules.specs.declared.answers.Operation.the-variants as Asked
+use Rattle.rules.specs.declared.answers.Handed.{Handed}
+use Rattle.rules.specs.declared.answers.Handed.the-variants.{Nothing, One}
+use Rattle.rules.proofs.Accepted.{Inside, sizes-fit, core-small, give-accepted, step-accepted, word-accepted}
+use Rattle.rules.proofs.Numbers.{start-number, give-number, step-number, poke-number}
+use Rattle.rules.proofs.Words.{word-laws}
+use Rattle.rules.proofs.Lawful.{refusal-laws, range-laws}
+use Rattle.rules.proofs.Invariant.{run-inv}
 use Rattle.archive.specs.Records.{kindGood, addressGood}
 use Rattle.archive.specs.Promises.{GoodRecord, AllGood}
 use Rattle.archive.proofs.Runs.{every-list-is-archived}

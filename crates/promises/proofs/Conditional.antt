@@ -7,22 +7,22 @@ use mathlib.Core.List.{List, [], _∷_, _++_}
 use Prim.Native.Nat.{ℕ, _/_}
 use lib.Dec.{eqb}
 use borrow.Author.Tests.{eqb-true, eqb-false}
-use Rattle.machine.specs.Basics.{if_then_else_}
-use Rattle.machine.specs.Kinds.{pokeCore}
-use Rattle.machine.specs.Calls.{Outcome}
-use Rattle.machine.specs.History.{History, ownSc, spoils, succeeds}
-use Rattle.machine.specs.Reference.{Whole, does, pokes, Reference, refer, finish, scDone, scFailed}
-use Rattle.machine.specs.Runs.{Call, Fresh, inOrder, entryRule}
-use Rattle.machine.specs.declared.entry.GuestAddress.{GuestAddress}
-use Rattle.machine.specs.declared.entry.EntryNumber.{EntryNumber}
-use Rattle.machine.specs.declared.answers.Operation.the-variants as Asked
-use Rattle.machine.specs.declared.answers.Answer.{Answer}
-use Rattle.machine.specs.declared.answers.Answer.the-variants as Answered
-use Rattle.machine.specs.declared.answers.Record.{Record}
-use Rattle.machine.proofs.Accepted.{sizes-fit}
-use Rattle.machine.proofs.Judging.{and-no}
-use Rattle.machine.proofs.Lawful.{entry-laws}
-use Rattle.machine.proofs.Invariant.{run-inv, started-inv}
+use Rattle.rules.specs.Basics.{if_then_else_}
+use Rattle.rules.specs.Kinds.{pokeCore}
+use Rattle.rules.specs.Calls.{Outcome}
+use Rattle.rules.specs.History.{History, ownSc, spoils, succeeds}
+use Rattle.rules.specs.Reference.{Whole, does, pokes, Reference, refer, finish, scDone, scFailed}
+use Rattle.rules.specs.Runs.{Call, Fresh, inOrder, entryRule}
+use Rattle.rules.specs.declared.entry.GuestAddress.{GuestAddress}
+use Rattle.rules.specs.declared.entry.EntryNumber.{EntryNumber}
+use Rattle.rules.specs.declared.answers.Operation.the-variants as Asked
+use Rattle.rules.specs.declared.answers.Answer.{Answer}
+use Rattle.rules.specs.declared.answers.Answer.the-variants as Answered
+use Rattle.rules.specs.declared.answers.Record.{Record}
+use Rattle.rules.proofs.Accepted.{sizes-fit}
+use Rattle.rules.proofs.Judging.{and-no}
+use Rattle.rules.proofs.Lawful.{entry-laws}
+use Rattle.rules.proofs.Invariant.{run-inv, started-inv}
 use Rattle.promises.specs.Success.{Never, LlBy, ScBy, SpoiledBy, LatestLl, Succeeds}
 use Rattle.promises.specs.Riscv.{SameWord, StoreOfAnother, MustFail, no-lr, outside, stored-to, another-sc}
 use Rattle.promises.specs.Causes.{Linked, Cause, no-link, elsewhere, spoiled}

@@ -7,12 +7,12 @@ use mathlib.Core.List.{[], _∷_, _++_}
 use Prim.Native.Nat.{ℕ}
 use lib.Dec.{eqb}
 use borrow.Author.Tests.{eqb-true, eqb-false, eq-eqb, ne-eqb}
-use Rattle.machine.specs.Basics.{if_then_else_}
-use Rattle.machine.specs.History.{History, ownLl, ownSc, spoils, succeeds}
-use Rattle.machine.specs.declared.entry.GuestAddress.{GuestAddress}
-use Rattle.machine.specs.declared.entry.EntryNumber.{EntryNumber}
-use Rattle.machine.specs.declared.answers.Record.{Record}
-use Rattle.machine.proofs.Bools.{and₂, and₃, or-true}
+use Rattle.rules.specs.Basics.{if_then_else_}
+use Rattle.rules.specs.History.{History, ownLl, ownSc, spoils, succeeds}
+use Rattle.rules.specs.declared.entry.GuestAddress.{GuestAddress}
+use Rattle.rules.specs.declared.entry.EntryNumber.{EntryNumber}
+use Rattle.rules.specs.declared.answers.Record.{Record}
+use Rattle.rules.proofs.Bools.{and₂, and₃, or-true}
 use Rattle.promises.specs.Success.{Never, LlBy, ScBy, SpoiledBy, LatestLl, Succeeds}
 
 -- tests and what they test

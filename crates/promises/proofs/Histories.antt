@@ -5,8 +5,8 @@ use mathlib.Core.Logic.{_⊎_, inl, inr}
 use mathlib.Core.Bool.{Bool, true, false, true≢false, false≢true}
 use mathlib.Core.List.{[], _∷_, _++_}
 use Prim.Native.Nat.{ℕ}
-use Rattle.machine.specs.History.{History, ownLl}
-use Rattle.machine.specs.declared.answers.Record.{Record}
+use Rattle.rules.specs.History.{History, ownLl}
+use Rattle.rules.specs.declared.answers.Record.{Record}
 use Rattle.promises.specs.Success.{Never, LlBy, LatestLl}
 use Rattle.promises.proofs.Decides.{ll-by, by-ll}
 

@@ -8,23 +8,23 @@ use native.Mathlib.Omega.{arith}
 use lib.ListN.{length, getD}
 use lib.Dec.{leb, eqb}
 use borrow.Author.Tests.{eqb-true, eqb-false, eq-eqb, ne-eqb, le-ltb, leb-true}
-use Rattle.machine.specs.Basics.{if_then_else_}
-use Rattle.machine.specs.Sizes.{written}
-use Rattle.machine.specs.Entry.{entryOf}
-use Rattle.machine.specs.Kinds.{isLoad, codeOf, addressOf}
-use Rattle.machine.specs.Ranges.{coreAt, damaged}
-use Rattle.machine.specs.Answers.{numberOf}
-use Rattle.machine.specs.Calls.{Outcome, addressRefusal, entryAt, markAt, giveRefusal, stepRefusal, wordRefusal}
-use Rattle.machine.specs.History.{Link, linkOf}
-use Rattle.machine.specs.Runs.{Call, give, step, poke, Fresh, act, after, records, givenTo, deliveredTo, inOrder, entryRule}
-use Rattle.machine.specs.declared.entry.GuestAddress.{GuestAddress}
-use Rattle.machine.specs.declared.answers.Operation.{Operation}
-use Rattle.machine.specs.declared.cores.Core.{Core}
-use Rattle.machine.proofs.Accepted.{lent}
-use Rattle.machine.proofs.Numbers.{of-both, give-number, step-number, poke-number}
-use Rattle.machine.proofs.Phases.{Locked, ll, store, sc, operationOf, Phase, rests, loads, asks, holds, reaches, leaves, picture}
-use Rattle.machine.proofs.Running.{CoreOk, Inv}
-use Rattle.machine.proofs.Invariant.{run-inv}
+use Rattle.rules.specs.Basics.{if_then_else_}
+use Rattle.rules.specs.Sizes.{written}
+use Rattle.rules.specs.Entry.{entryOf}
+use Rattle.rules.specs.Kinds.{isLoad, codeOf, addressOf}
+use Rattle.rules.specs.Ranges.{coreAt, damaged}
+use Rattle.rules.specs.Answers.{numberOf}
+use Rattle.rules.specs.Calls.{Outcome, addressRefusal, entryAt, markAt, giveRefusal, stepRefusal, wordRefusal}
+use Rattle.rules.specs.History.{Link, linkOf}
+use Rattle.rules.specs.Runs.{Call, give, step, poke, Fresh, act, after, records, givenTo, deliveredTo, inOrder, entryRule}
+use Rattle.rules.specs.declared.entry.GuestAddress.{GuestAddress}
+use Rattle.rules.specs.declared.answers.Operation.{Operation}
+use Rattle.rules.specs.declared.cores.Core.{Core}
+use Rattle.rules.proofs.Accepted.{lent}
+use Rattle.rules.proofs.Numbers.{of-both, give-number, step-number, poke-number}
+use Rattle.rules.proofs.Phases.{Locked, ll, store, sc, operationOf, Phase, rests, loads, asks, holds, reaches, leaves, picture}
+use Rattle.rules.proofs.Running.{CoreOk, Inv}
+use Rattle.rules.proofs.Invariant.{run-inv}
 use Rattle.promises.specs.Standing.{Inside, Stands, Standing}
 
 -- numbers that are none of 4, 5 and 6

@@ -3,13 +3,13 @@
 use mathlib.Core.Path.{refl}
 use mathlib.Core.List.{[]}
 use lib.ListN.{replicate}
-use Rattle.machine.specs.Entry.{entryOf}
-use Rattle.machine.specs.Sizes.{entriesFit}
-use Rattle.machine.specs.Word.{readWord, writeWord}
-use Rattle.machine.specs.Life.{microStep, loadStep, lockStep, markStep, accessStep, delivered}
-use Rattle.machine.specs.Ranges.{coreFits, inRanges, damaged}
-use Rattle.machine.specs.Calls.{startRefusal, startOf, giveRefusal, giveOf, stepRefusal, stepOf, stepped, microStepAt, wordRefusal, pokeOf}
-use Rattle.machine.specs.Runs.{act, after, records}
+use Rattle.rules.specs.Entry.{entryOf}
+use Rattle.rules.specs.Sizes.{entriesFit}
+use Rattle.rules.specs.Word.{readWord, writeWord}
+use Rattle.rules.specs.Life.{microStep, loadStep, lockStep, markStep, accessStep, delivered}
+use Rattle.rules.specs.Ranges.{coreFits, inRanges, damaged}
+use Rattle.rules.specs.Calls.{startRefusal, startOf, giveRefusal, giveOf, stepRefusal, stepOf, stepped, microStepAt, wordRefusal, pokeOf}
+use Rattle.rules.specs.Runs.{act, after, records}
 use Rattle.archive.specs.Check.{fletcher}
 use Rattle.promises.specs.Table.{Met, small, played, finals, wordAfter, SmallRuns}
 

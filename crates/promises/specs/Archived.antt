@@ -3,9 +3,9 @@ use mathlib.Core.Path.{_≡_}
 use mathlib.Core.List.{List, [], _∷_, _++_, reverse}
 use Prim.Native.Nat.{ℕ, _≤_, _<_, _^_}
 use lib.ListN.{length}
-use Rattle.machine.specs.Kinds.{valueOf}
-use Rattle.machine.specs.Calls.{Outcome}
-use Rattle.machine.specs.Runs.{Call, give, step, poke, Fresh, records}
+use Rattle.rules.specs.Kinds.{valueOf}
+use Rattle.rules.specs.Calls.{Outcome}
+use Rattle.rules.specs.Runs.{Call, give, step, poke, Fresh, records}
 use Rattle.archive.specs.Promises.{AllGood, mostRecords, run, freshRun, adds, Close}
 use Rattle.archive.specs.Whole.{encodeArchive}
 

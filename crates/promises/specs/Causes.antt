@@ -1,9 +1,9 @@
 -- Document 01: "So the failure causes are: no link, link elsewhere, or such an access by another core."
 use mathlib.Core.Path.{_≡_}
 use Prim.Native.Nat.{ℕ}
-use Rattle.machine.specs.History.{History}
-use Rattle.machine.specs.declared.entry.GuestAddress.{GuestAddress}
-use Rattle.machine.specs.declared.entry.EntryNumber.{EntryNumber}
+use Rattle.rules.specs.History.{History}
+use Rattle.rules.specs.declared.entry.GuestAddress.{GuestAddress}
+use Rattle.rules.specs.declared.entry.EntryNumber.{EntryNumber}
 use Rattle.promises.specs.Success.{Never, ScBy, SpoiledBy, LatestLl}
 use Rattle.promises.specs.Riscv.{Some}
 

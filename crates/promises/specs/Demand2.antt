@@ -1,16 +1,16 @@
 -- Demand 2: "In a run from a fresh machine no store-conditional succeeds where RISC-V's A extension says it must fail, and it fails only for a cause named in the rules."
 use mathlib.Core.Path.{_≡_}
 use mathlib.Core.List.{List, _∷_, _++_}
-use Rattle.machine.specs.Calls.{Outcome}
-use Rattle.machine.specs.Kinds.{pokeCore, pokeKind}
-use Rattle.machine.specs.History.{History, succeeds}
-use Rattle.machine.specs.Reference.{Reference, accessOf, finish}
-use Rattle.machine.specs.Runs.{Call, Fresh, records, entryRule}
-use Rattle.machine.specs.declared.entry.GuestAddress.{GuestAddress}
-use Rattle.machine.specs.declared.entry.EntryNumber.{EntryNumber}
-use Rattle.machine.specs.declared.answers.Record.{Record}
-use Rattle.machine.specs.declared.answers.Operation.the-variants as Asked
-use Rattle.machine.specs.declared.answers.Answer.the-variants as Answered
+use Rattle.rules.specs.Calls.{Outcome}
+use Rattle.rules.specs.Kinds.{pokeCore, pokeKind}
+use Rattle.rules.specs.History.{History, succeeds}
+use Rattle.rules.specs.Reference.{Reference, accessOf, finish}
+use Rattle.rules.specs.Runs.{Call, Fresh, records, entryRule}
+use Rattle.rules.specs.declared.entry.GuestAddress.{GuestAddress}
+use Rattle.rules.specs.declared.entry.EntryNumber.{EntryNumber}
+use Rattle.rules.specs.declared.answers.Record.{Record}
+use Rattle.rules.specs.declared.answers.Operation.the-variants as Asked
+use Rattle.rules.specs.declared.answers.Answer.the-variants as Answered
 use Rattle.promises.specs.Riscv.{MustFail}
 use Rattle.promises.specs.Causes.{Cause}
 use Prim.Native.Nat.{ℕ}

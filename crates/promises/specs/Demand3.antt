@@ -4,9 +4,9 @@ use mathlib.Core.Path.{_≡_}
 use mathlib.Core.Logic.{_⊎_}
 use mathlib.Core.List.{List, _∷_}
 use Prim.Native.Nat.{ℕ}
-use Rattle.machine.specs.Calls.{Outcome}
-use Rattle.machine.specs.Reference.{Reference, refer, operationsOf, answersOf}
-use Rattle.machine.specs.Runs.{Call, Fresh, after, records, givenTo, deliveredTo, inOrder, entryRule}
+use Rattle.rules.specs.Calls.{Outcome}
+use Rattle.rules.specs.Reference.{Reference, refer, operationsOf, answersOf}
+use Rattle.rules.specs.Runs.{Call, Fresh, after, records, givenTo, deliveredTo, inOrder, entryRule}
 
 -- the reference machine after the run's operations, in the order of their access steps, from the fresh machine's memory
 abbrev pub reference : Outcome → List Call → Reference

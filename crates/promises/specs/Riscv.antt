@@ -2,10 +2,10 @@
 use mathlib.Core.Path.{_≡_}
 use mathlib.Core.Logic.{_⊎_}
 use Prim.Native.Nat.{ℕ, _/_}
-use Rattle.machine.specs.History.{History}
+use Rattle.rules.specs.History.{History}
 use Rattle.promises.specs.Success.{Never, LlBy, ScBy, LatestLl}
-use Rattle.machine.specs.declared.entry.GuestAddress.{GuestAddress}
-use Rattle.machine.specs.declared.answers.Record.{Record}
+use Rattle.rules.specs.declared.entry.GuestAddress.{GuestAddress}
+use Rattle.rules.specs.declared.answers.Record.{Record}
 
 -- some access of the history is of this sort
 abbrev pub Some : (Record → Type 0) → History → Type 0

@@ -4,14 +4,14 @@ use mathlib.Core.Bool.{true, false}
 use mathlib.Core.List.{List}
 use Prim.Native.Nat.{ℕ, _≤_, _<_}
 use lib.ListN.{getD}
-use Rattle.machine.specs.Sizes.{written}
-use Rattle.machine.specs.Kinds.{isLoad}
-use Rattle.machine.specs.Ranges.{coreAt}
-use Rattle.machine.specs.Answers.{numberOf}
-use Rattle.machine.specs.Calls.{Outcome}
-use Rattle.machine.specs.History.{linkOf, ownerOf}
-use Rattle.machine.specs.Runs.{Call, Fresh, act, after, records, entryRule}
-use Rattle.machine.specs.declared.cores.Core.{Core}
+use Rattle.rules.specs.Sizes.{written}
+use Rattle.rules.specs.Kinds.{isLoad}
+use Rattle.rules.specs.Ranges.{coreAt}
+use Rattle.rules.specs.Answers.{numberOf}
+use Rattle.rules.specs.Calls.{Outcome}
+use Rattle.rules.specs.History.{linkOf, ownerOf}
+use Rattle.rules.specs.Runs.{Call, Fresh, act, after, records, entryRule}
+use Rattle.rules.specs.declared.cores.Core.{Core}
 
 -- a core inside steps 2 to 4 of a locked operation at an entry
 pub record Inside (fresh : Outcome) (c : Core) (e : ℕ) : Type 0 where

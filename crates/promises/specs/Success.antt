@@ -3,10 +3,10 @@ use mathlib.Core.Path.{_≡_}
 use mathlib.Core.Logic.{_⊎_}
 use mathlib.Core.List.{[], _∷_, _++_}
 use Prim.Native.Nat.{ℕ}
-use Rattle.machine.specs.History.{History}
-use Rattle.machine.specs.declared.entry.GuestAddress.{GuestAddress}
-use Rattle.machine.specs.declared.entry.EntryNumber.{EntryNumber}
-use Rattle.machine.specs.declared.answers.Record.{Record}
+use Rattle.rules.specs.History.{History}
+use Rattle.rules.specs.declared.entry.GuestAddress.{GuestAddress}
+use Rattle.rules.specs.declared.entry.EntryNumber.{EntryNumber}
+use Rattle.rules.specs.declared.answers.Record.{Record}
 
 -- no access of the history is of this sort
 abbrev pub Never : (Record → Type 0) → History → Type 0

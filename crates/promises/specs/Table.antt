@@ -3,18 +3,18 @@ use mathlib.Core.Path.{_≡_}
 use mathlib.Core.List.{List, [], _∷_, _++_}
 use Prim.Native.Nat.{ℕ}
 use lib.ListN.{replicate}
-use Rattle.machine.specs.Basics.{if_then_else_}
-use Rattle.machine.specs.Word.{readWord}
-use Rattle.machine.specs.Calls.{Outcome, startOf}
-use Rattle.machine.specs.Reference.{Whole, does, pokes}
-use Rattle.machine.specs.Runs.{Call, give, step, poke, act, after, finishes, Fresh}
-use Rattle.machine.specs.History.{History}
-use Rattle.machine.specs.declared.answers.Record.{Record}
+use Rattle.rules.specs.Basics.{if_then_else_}
+use Rattle.rules.specs.Word.{readWord}
+use Rattle.rules.specs.Calls.{Outcome, startOf}
+use Rattle.rules.specs.Reference.{Whole, does, pokes}
+use Rattle.rules.specs.Runs.{Call, give, step, poke, act, after, finishes, Fresh}
+use Rattle.rules.specs.History.{History}
+use Rattle.rules.specs.declared.answers.Record.{Record}
 use Rattle.archive.specs.Check.{fletcher}
 use Rattle.promises.specs.Demand2.{At}
-use Rattle.machine.specs.declared.answers.Operation.the-variants as Asked
-use Rattle.machine.specs.declared.answers.Answer.{Answer}
-use Rattle.machine.specs.declared.answers.Answer.the-variants as Answered
+use Rattle.rules.specs.declared.answers.Operation.the-variants as Asked
+use Rattle.rules.specs.declared.answers.Answer.{Answer}
+use Rattle.rules.specs.declared.answers.Answer.the-variants as Answered
 
 -- "3 cores, 64 bytes, 4 entries, fresh"
 unfoldable pub small : Outcome

@@ -11,7 +11,7 @@ use lib.ListN.{length, getD, take, drop, set, length-take, length-drop}
 use lib.Seq.{drop-cons, drop-drop, drop-nil, drop-set-lt, getD-drop, take-all, take-nil, take-suc, take-suc-set, take-take}
 use lib.Dec.{eqb, leb}
 use borrow.Author.Tests.{eq-eqb, ne-eqb, leb-true, leb-false}
-use Rattle.machine.specs.Basics.{if_then_else_}
+use Rattle.rules.specs.Basics.{if_then_else_}
 use Rattle.script.specs.Lines.{firstLine, wholeFrom, wholeLines, leftFrom, unfinished, handed, handedOn, between}
 use Rattle.script.specs.Answering.{linesIn}
 

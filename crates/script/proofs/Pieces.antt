@@ -8,7 +8,7 @@ use native.Mathlib.Omega.{arith}
 use lib.ListN.{take}
 use lib.Seq.{take-take}
 use lib.Dec.{eqb}
-use Rattle.machine.specs.Basics.{if_then_else_}
+use Rattle.rules.specs.Basics.{if_then_else_}
 use Rattle.script.proofs.Cutting.{by-test}
 use Rattle.script.specs.Lines.{wholeFrom, wholeLines, leftFrom, unfinished, lastLine, handed, handedOn, cutFrom, joined, PiecesDoNotMatter}
 

@@ -4,11 +4,11 @@ use mathlib.Core.List.{List, [], _∷_}
 use Prim.Native.Nat.{ℕ, _+_}
 use lib.ListN.{length}
 use lib.Dec.{leb, ltb}
-use Rattle.machine.specs.Basics.{if_then_else_}
-use Rattle.machine.specs.declared.answers.Answer.{Answer}
-use Rattle.machine.specs.declared.answers.Answer.the-variants.{Refused, Ready, Taken, Moved, Waits, Load, Ll, Store, Sc, Poked, Word}
-use Rattle.machine.specs.declared.answers.Handed.{Handed}
-use Rattle.machine.specs.declared.answers.Handed.the-variants as made
+use Rattle.rules.specs.Basics.{if_then_else_}
+use Rattle.rules.specs.declared.answers.Answer.{Answer}
+use Rattle.rules.specs.declared.answers.Answer.the-variants.{Refused, Ready, Taken, Moved, Waits, Load, Ll, Store, Sc, Poked, Word}
+use Rattle.rules.specs.declared.answers.Handed.{Handed}
+use Rattle.rules.specs.declared.answers.Handed.the-variants as made
 use Rattle.commands.specs.Texts.{answerPut, answerEnd}
 use Rattle.commands.specs.declared.effect.Session.{Session}
 use Rattle.script.specs.declared.answering.Place.{Place}

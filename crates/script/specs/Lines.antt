@@ -4,7 +4,7 @@ use mathlib.Core.List.{List, [], _∷_, _++_, map}
 use Prim.Native.Nat.{ℕ, _-_}
 use lib.ListN.{take, drop}
 use lib.Dec.{eqb}
-use Rattle.machine.specs.Basics.{if_then_else_}
+use Rattle.rules.specs.Basics.{if_then_else_}
 
 -- the bytes before the first newline, or all of them
 abbrev pub firstLine : List ℕ → List ℕ

@@ -43,32 +43,32 @@ use denote.Triple.Clauses.{ensured, lasts}
 use denote.Triple.Table.{entered, cited}
 use denote.Triple.Walked.{says, Stays, stay-ref, stay-dropped, walkOf, goes-ref, goes-dropped, Walks, ends-at, walked, walk-meets}
 use denote.Exit.{yes}
-use Rattle.machine.specs.Answers.{numberOf}
-use Rattle.machine.specs.Calls.{answered, giveRefusal, giveOf}
-use Rattle.machine.specs.declared.answers.Answer.{Answer}
-use Rattle.machine.specs.declared.answers.Operation.{Operation}
-use Rattle.machine.specs.declared.state.Machine.{Machine}
+use Rattle.rules.specs.Answers.{numberOf}
+use Rattle.rules.specs.Calls.{answered, giveRefusal, giveOf}
+use Rattle.rules.specs.declared.answers.Answer.{Answer}
+use Rattle.rules.specs.declared.answers.Operation.{Operation}
+use Rattle.rules.specs.declared.state.Machine.{Machine}
 use Rattle.bench.specs.Packed.{askedOf, askingFor, packedIf}
 use Rattle.bench.specs.Machines.{left, giveCall}
 use Rattle.bench.specs.declared.packed.Asking.{Asking}
 use Rattle.bench.proofs.Joined.{give-left}
 use Rattle.machine.proofs.Standing.{IsM, machine-lies, machine-stands}
-use Rattle.machine.proofs.state.Machine as T
-use Rattle.machine.proofs.state.Machine.Laws as T′
-use Rattle.machine.proofs.answers.Operation as O
-use Rattle.machine.proofs.answers.Operation.Laws as O′
-use Rattle.machine.proofs.answers.Answer as N
-use Rattle.machine.proofs.answers.Answer.Laws as N′
+use Rattle.rules.proofs.state.Machine as T
+use Rattle.rules.proofs.state.Machine.Laws as T′
+use Rattle.rules.proofs.answers.Operation as O
+use Rattle.rules.proofs.answers.Operation.Laws as O′
+use Rattle.rules.proofs.answers.Answer as N
+use Rattle.rules.proofs.answers.Answer.Laws as N′
 use Rattle.bench.proofs.packed.Asking as K
 use Rattle.bench.proofs.packed.Asking.Laws as K′
 use Rattle.bench.proofs.packed.asking_for as asks
 use Rattle.bench.proofs.packed.asking_for.Symbol as asks-def
 use Rattle.bench.proofs.packed.asking_for.Symbol.{name as #asks}
 use Rattle.bench.proofs.packed.asking_for.Met as asks-thm
-use Rattle.machine.proofs.state.Machine.give_in_place as gives
-use Rattle.machine.proofs.state.Machine.give_in_place.Symbol as gives-def
-use Rattle.machine.proofs.state.Machine.give_in_place.Symbol.{name as #gives}
-use Rattle.machine.proofs.state.Machine.give_in_place.Met as gives-thm
+use Rattle.machine.proofs.give_in_place as gives
+use Rattle.machine.proofs.give_in_place.Symbol as gives-def
+use Rattle.machine.proofs.give_in_place.Symbol.{name as #gives}
+use Rattle.machine.proofs.give_in_place.Met as gives-thm
 use Rattle.bench.proofs.packed.given as packs
 use Rattle.bench.proofs.packed.given.Symbol as packs-def
 use Rattle.bench.proofs.packed.given.Symbol.{name as #packs}
@@ -252,5 +252,5 @@ malthobre-give-spec 𝓤 H 𝓜 𝓖 𝓡 =
     (tables 𝓤 H 𝓜 𝓡 code.env .C) (tables 𝓤 H 𝓜 𝓡 code.env .Λ) #here code.function (code.unfolded 𝓤 H 𝓜 𝓡)
     (meets 𝓤 H (𝓖 .A) (givenOf 𝓤 H 𝓜 𝓖) (𝓜 .mem) (𝓡 .run) (tablesOf 𝓤 H 𝓜 (tables 𝓤 H 𝓜 𝓡 code.env))
     (cited 𝓤 H (Asks 𝓤 H (𝓖 .A) (𝓜 .mem) (𝓡 .run)) 𝓜 𝓡 code.env #asks asks-def.routine code.calls-bench·packed·asking-for (asks-thm.met 𝓤 H 𝓜 𝓖 𝓡))
-    (cited 𝓤 H (Gives 𝓤 H (𝓖 .A) (𝓜 .mem) (𝓡 .run)) 𝓜 𝓡 code.env #gives gives-def.routine code.calls-machine·state·Machine·give-in-place (gives-thm.met 𝓤 H 𝓜 𝓖 𝓡))
+    (cited 𝓤 H (Gives 𝓤 H (𝓖 .A) (𝓜 .mem) (𝓡 .run)) 𝓜 𝓡 code.env #gives gives-def.routine code.calls-machine·give-in-place (gives-thm.met 𝓤 H 𝓜 𝓖 𝓡))
     (cited 𝓤 H (Packs 𝓤 H (𝓖 .A) (𝓜 .mem) (𝓡 .run)) 𝓜 𝓡 code.env #packs packs-def.routine code.calls-bench·packed·given (packs-thm.met 𝓤 H 𝓜 𝓖 𝓡)))

@@ -46,9 +46,9 @@ use denote.Triple.Walked.{says, Stays, stay-ref, gave-slice, gave-ref, stay-drop
 use denote.Exit.{yes}
 use Rattle.bench.specs.Machines.{pokeLeft, pokeCall}
 use Rattle.bench.specs.declared.machines.MachineLeft.{MachineLeft}
-use Rattle.machine.specs.declared.state.Machine.{Machine}
-use Rattle.machine.proofs.state.Machine as T
-use Rattle.machine.proofs.state.Machine.Laws as T′
+use Rattle.rules.specs.declared.state.Machine.{Machine}
+use Rattle.rules.proofs.state.Machine as T
+use Rattle.rules.proofs.state.Machine.Laws as T′
 use Rattle.bench.proofs.machines.MachineLeft as S
 use Rattle.bench.proofs.machines.MachineLeft.Laws as S′
 use Rattle.bench.proofs.machines.poke as callee

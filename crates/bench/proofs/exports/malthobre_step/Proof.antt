@@ -46,23 +46,23 @@ use denote.Triple.Clauses.{ensured, lasts}
 use denote.Triple.Table.{entered, cited}
 use denote.Triple.Walked.{says, Stays, stay-ref, gave-slice, gave-ref, stay-dropped, walkOf, goes-ref, goes-gave-slice, goes-gave-ref, goes-dropped, Walks, ends-at, walked, walk-meets}
 use denote.Exit.{yes}
-use Rattle.machine.specs.Answers.{numberOf}
-use Rattle.machine.specs.Calls.{outcome, stepRefusal, stepOf}
+use Rattle.rules.specs.Answers.{numberOf}
+use Rattle.rules.specs.Calls.{outcome, stepRefusal, stepOf}
 use Rattle.machine.specs.Place.{calledAt}
-use Rattle.machine.specs.declared.state.Machine.{Machine}
+use Rattle.rules.specs.declared.state.Machine.{Machine}
 use Rattle.machine.specs.declared.place.Stepped.{Stepped}
 use Rattle.bench.specs.Packed.{packed, handedBytes}
 use Rattle.bench.specs.Machines.{left, stepLeft, stepCall}
 use Rattle.bench.proofs.Joined.{step-left}
 use Rattle.machine.proofs.Standing.{IsM, machine-lies, machine-stands}
-use Rattle.machine.proofs.state.Machine as T
-use Rattle.machine.proofs.state.Machine.Laws as T′
+use Rattle.rules.proofs.state.Machine as T
+use Rattle.rules.proofs.state.Machine.Laws as T′
 use Rattle.machine.proofs.place.Stepped as E
 use Rattle.machine.proofs.place.Stepped.Laws as E′
-use Rattle.machine.proofs.state.Machine.step_in_place as step
-use Rattle.machine.proofs.state.Machine.step_in_place.Symbol as step-def
-use Rattle.machine.proofs.state.Machine.step_in_place.Symbol.{name as #step}
-use Rattle.machine.proofs.state.Machine.step_in_place.Met as step-thm
+use Rattle.machine.proofs.step_in_place as step
+use Rattle.machine.proofs.step_in_place.Symbol as step-def
+use Rattle.machine.proofs.step_in_place.Symbol.{name as #step}
+use Rattle.machine.proofs.step_in_place.Met as step-thm
 use Rattle.bench.proofs.machines.told as told
 use Rattle.bench.proofs.machines.told.Symbol as told-def
 use Rattle.bench.proofs.machines.told.Symbol.{name as #told}
@@ -269,5 +269,5 @@ malthobre-step-spec 𝓤 H 𝓜 𝓖 𝓡 =
     entered 𝓤 H (tripleOf 𝓤 H (𝓖 .A) here.signature (here.spec 𝓤 H (𝓖 .A) (𝓜 .mem) (𝓡 .run)))
     (tables 𝓤 H 𝓜 𝓡 code.env .C) (tables 𝓤 H 𝓜 𝓡 code.env .Λ) #here code.function (code.unfolded 𝓤 H 𝓜 𝓡)
     (meets 𝓤 H (𝓖 .A) (givenOf 𝓤 H 𝓜 𝓖) (𝓜 .mem) (𝓡 .run) (tablesOf 𝓤 H 𝓜 (tables 𝓤 H 𝓜 𝓡 code.env))
-    (cited 𝓤 H (Step 𝓤 H (𝓖 .A) (𝓜 .mem) (𝓡 .run)) 𝓜 𝓡 code.env #step step-def.routine code.calls-machine·state·Machine·step-in-place (step-thm.met 𝓤 H 𝓜 𝓖 𝓡))
+    (cited 𝓤 H (Step 𝓤 H (𝓖 .A) (𝓜 .mem) (𝓡 .run)) 𝓜 𝓡 code.env #step step-def.routine code.calls-machine·step-in-place (step-thm.met 𝓤 H 𝓜 𝓖 𝓡))
     (cited 𝓤 H (Told 𝓤 H (𝓖 .A) (𝓜 .mem) (𝓡 .run)) 𝓜 𝓡 code.env #told told-def.routine code.calls-bench·machines·told (told-thm.met 𝓤 H 𝓜 𝓖 𝓡)))

@@ -1,6 +1,6 @@
 -- `commands::effect::no_machine` meets its contract. Assumes nothing.
 use Rattle.commands.proofs.effect.no_machine.Statement.{statement}
-use Rattle.machine.specs.Calls.{Outcome, startOf, startRefusal}
+use Rattle.rules.specs.Calls.{Outcome, startOf, startRefusal}
 use borrow.Author.Needs.{needs}
 use mathlib.Core.Bool.{false}
 use mathlib.Core.Path.{ap}

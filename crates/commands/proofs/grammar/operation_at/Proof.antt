@@ -5,7 +5,7 @@ use Rattle.commands.proofs.Words.{op-ll, op-load, op-none, op-sc, op-st
 use Rattle.commands.proofs.grammar.operation_at.Statement.{statement}
 use Rattle.commands.specs.Grammar.{llWord, loadWord, scWord, storeWord, withAddress, withValue}
 use Rattle.commands.specs.declared.grammar.Command.the-variants.{Give}
-use Rattle.machine.specs.declared.answers.Operation.the-variants.{Ll, Load, Sc, Store}
+use Rattle.rules.specs.declared.answers.Operation.the-variants.{Ll, Load, Sc, Store}
 use borrow.Author.Needs.{needs}
 use lib.ListN.{drop}
 use mathlib.Core.Path.{_∙_, ap, sym}

@@ -3,6 +3,7 @@ use native.Mathlib.Omega.{arith}
 use borrow.Author.Tests.{eq-eqb, ne-eqb}
 use borrow.Author.Needs.{needs}
 use Rattle.machine.specs.Acted.{actedOf}
+use Rattle.machine.proofs.Acting.{own-step}
 use Rattle.machine.proofs.calls.acted.Statement.{statement}
 use Rattle.machine.proofs.calls.acted.Tie as tie
 
@@ -16,9 +17,6 @@ returns c = rw (ne-eqb _ _ (c .before .if1 .taken), c .refusing .ensures)
 read-word-requires : tie.Need-read-word-requires
 read-word-requires c κs = c .before .before .before .before .before .before .pre (c .before .before .if1 .left) .word-there
 
-cast-micro-step : tie.Need-cast-micro-step
-cast-micro-step c = let r = c .before .before .before .before .before .before .before .pre (c .before .before .before .if1 .left) .core-small in omega arith
-
 slice-read-micro-step : tie.Need-slice-read-micro-step
 slice-read-micro-step c = c .before .before .before .before .before .before .before .before .pre (c .before .before .before .before .if1 .left) .owner-there
 
@@ -26,7 +24,7 @@ slice-read-micro-step-2 : tie.Need-slice-read-micro-step-2
 slice-read-micro-step-2 c = c .before .before .before .before .before .before .before .before .before .pre (c .before .before .before .before .before .if1 .left) .holder-there
 
 micro-step-requires : tie.Need-micro-step-requires
-micro-step-requires c κs = c .before .before .before .before .before .before .before .before .before .pre (c .before .before .before .before .before .if1 .left) .core-small
+micro-step-requires c κs = search needs
 
 slice-write-owners : tie.Need-slice-write-owners
 slice-write-owners c = c .before .before .before .before .before .before .before .before .before .before .pre (c .before .before .before .before .before .before .if1 .left) .owner-there
@@ -48,7 +46,7 @@ same-length-3 c = search needs
 
 returns-2 : tie.Need-returns-2
 unfolding actedOf
-returns-2 c = rw (eq-eqb _ _ (c .before .before .before .before .before .before .before .before .before .before .if1 .left), ← c .before .before .before .before .before .before .before .read-word .ensures, ← c .before .before .before .before .micro-step .ensures, c .before .before .write-word-if .ensures)
+returns-2 c = rw (eq-eqb _ _ (c .before .before .before .before .before .before .before .before .before .before .if1 .left), ← c .before .before .before .before .before .before .before .read-word .ensures, ← own-step _ _ _ _ (c .before .before .before .before .before .before .before .before .before .before .before .before .before .before .pre (c .before .before .before .before .before .before .before .before .before .before .if1 .left) .core-small) (c .before .before .before .before .micro-step .ensures), c .before .before .write-word-if .ensures)
 
 pub acted-spec : {M : Type 1} → statement M
 acted-spec =
@@ -57,7 +55,6 @@ acted-spec =
     refusing-requires
     returns
     read-word-requires
-    cast-micro-step
     slice-read-micro-step
     slice-read-micro-step-2
     micro-step-requires

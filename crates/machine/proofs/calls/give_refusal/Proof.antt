@@ -3,10 +3,10 @@ use mathlib.Core.Path.{_∙_, ap, sym}
 use Prim.Native.Nat.{ℕ}
 use borrow.Author.Tests.{le-leb, lt-leb, not-false}
 use borrow.Author.Needs.{needs}
-use Rattle.machine.specs.Calls.{giveRefusal}
-use Rattle.machine.specs.Ranges.{coreAt}
-use Rattle.machine.specs.declared.cores.Core.{Core}
-use Rattle.machine.proofs.Accepted.{core-small}
+use Rattle.rules.specs.Calls.{giveRefusal}
+use Rattle.rules.specs.Ranges.{coreAt}
+use Rattle.rules.specs.declared.cores.Core.{Core}
+use Rattle.rules.proofs.Accepted.{core-small}
 use Rattle.machine.proofs.Acting.{own-pick}
 use Rattle.machine.proofs.calls.give_refusal.Statement.{statement}
 use Rattle.machine.proofs.calls.give_refusal.Tie as tie

@@ -3,9 +3,9 @@ use mathlib.Core.Path.{_∙_, sym}
 use lib.ListN.{length}
 use borrow.Author.Tests.{eq-eqb, ne-eqb}
 use borrow.Author.Needs.{needs}
-use Rattle.machine.specs.Calls.{PokeOutcome, pokeOf}
-use Rattle.machine.proofs.Numbers.{numbered, poke-number}
-use Rattle.machine.proofs.Accepted.{word-accepted, word-lent}
+use Rattle.rules.specs.Calls.{PokeOutcome, pokeOf}
+use Rattle.rules.proofs.Numbers.{numbered, poke-number}
+use Rattle.rules.proofs.Accepted.{word-accepted, word-lent}
 use Rattle.machine.proofs.calls.poke.Statement.{statement}
 use Rattle.machine.proofs.calls.poke.Tie as tie
 

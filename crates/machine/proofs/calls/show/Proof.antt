@@ -3,10 +3,10 @@ use mathlib.Core.Path.{_∙_, sym}
 use lib.ListN.{length}
 use borrow.Author.Tests.{eq-eqb, ne-eqb}
 use borrow.Author.Needs.{needs}
-use Rattle.machine.specs.declared.state.Called.{Called}
-use Rattle.machine.specs.Calls.{showOf}
-use Rattle.machine.proofs.Numbers.{numbered, show-number}
-use Rattle.machine.proofs.Accepted.{word-accepted, word-lent}
+use Rattle.rules.specs.declared.state.Called.{Called}
+use Rattle.rules.specs.Calls.{showOf}
+use Rattle.rules.proofs.Numbers.{numbered, show-number}
+use Rattle.rules.proofs.Accepted.{word-accepted, word-lent}
 use Rattle.machine.proofs.calls.show.Statement.{statement}
 use Rattle.machine.proofs.calls.show.Tie as tie
 

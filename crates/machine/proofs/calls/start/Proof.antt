@@ -1,8 +1,8 @@
 -- `machine::calls::start` meets its contract. Assumes nothing.
 use borrow.Author.Tests.{eq-eqb, ne-eqb}
 use borrow.Author.Needs.{needs}
-use Rattle.machine.specs.Calls.{Outcome, startOf}
-use Rattle.machine.proofs.Numbers.{numbered, start-number}
+use Rattle.rules.specs.Calls.{Outcome, startOf}
+use Rattle.rules.proofs.Numbers.{numbered, start-number}
 use Rattle.machine.proofs.calls.start.Statement.{statement}
 use Rattle.machine.proofs.calls.start.Tie as tie
 

@@ -1,6 +1,6 @@
 -- `machine::calls::start_refusal` meets its contract. Assumes nothing.
 use borrow.Author.Needs.{needs}
-use Rattle.machine.specs.Calls.{startRefusal}
+use Rattle.rules.specs.Calls.{startRefusal}
 use Rattle.machine.proofs.calls.start_refusal.Statement.{statement}
 use Rattle.machine.proofs.calls.start_refusal.Tie as tie
 

@@ -4,8 +4,8 @@ use native.Mathlib.Omega.{arith}
 use lib.ListN.{length}
 use borrow.Author.Tests.{not-false, le-leb, lt-leb}
 use borrow.Author.Needs.{needs}
-use Rattle.machine.specs.Calls.{stepRefusal}
-use Rattle.machine.proofs.Accepted.{sizes-fit, core-small, entry-below, lent}
+use Rattle.rules.specs.Calls.{stepRefusal}
+use Rattle.rules.proofs.Accepted.{sizes-fit, core-small, entry-below, lent}
 use Rattle.machine.proofs.Acting.{here}
 use Rattle.machine.proofs.calls.step_refusal.Statement.{statement}
 use Rattle.machine.proofs.calls.step_refusal.Tie as tie

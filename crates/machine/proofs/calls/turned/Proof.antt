@@ -1,7 +1,7 @@
 -- `machine::calls::turned` meets its contract. Assumes nothing.
 use mathlib.Core.Path.{_∙_, ap}
 use borrow.Author.Needs.{needs}
-use Rattle.machine.specs.declared.entry.EntryNumber.{EntryNumber}
+use Rattle.rules.specs.declared.entry.EntryNumber.{EntryNumber}
 use Rattle.machine.proofs.Acting.{turned-by, step-reached}
 use Rattle.machine.proofs.calls.turned.Statement.{statement}
 use Rattle.machine.proofs.calls.turned.Tie as tie

@@ -1,6 +1,6 @@
 -- `machine::calls::word_refusal` meets its contract. Assumes nothing.
 use borrow.Author.Needs.{needs}
-use Rattle.machine.specs.Calls.{wordRefusal}
+use Rattle.rules.specs.Calls.{wordRefusal}
 use Rattle.machine.proofs.calls.word_refusal.Statement.{statement}
 use Rattle.machine.proofs.calls.word_refusal.Tie as tie
 

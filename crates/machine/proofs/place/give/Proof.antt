@@ -39,31 +39,31 @@ use denote.Triple.Clauses.{ensured, lasts}
 use denote.Triple.Table.{entered, cited}
 use denote.Triple.Walked.{Stays, stay-none, walkOf, goes-none, Walks, ends-at, walked, walk-meets}
 use denote.Exit.{yes}
-use Rattle.machine.specs.Answers.{numberOf}
-use Rattle.machine.specs.Calls.{answered, giveRefusal, giveOf}
-use Rattle.machine.specs.declared.answers.Operation.{Operation}
-use Rattle.machine.specs.declared.answers.Answer.{Answer}
-use Rattle.machine.specs.declared.state.Machine.{Machine}
-use Rattle.machine.specs.declared.state.Called.{Called}
+use Rattle.rules.specs.Answers.{numberOf}
+use Rattle.rules.specs.Calls.{answered, giveRefusal, giveOf}
+use Rattle.rules.specs.declared.answers.Operation.{Operation}
+use Rattle.rules.specs.declared.answers.Answer.{Answer}
+use Rattle.rules.specs.declared.state.Machine.{Machine}
+use Rattle.rules.specs.declared.state.Called.{Called}
 use Rattle.machine.proofs.Many.{says2}
-use Rattle.machine.proofs.Numbers.{give-number}
+use Rattle.rules.proofs.Numbers.{give-number}
 use Rattle.machine.proofs.Standing.{IsM, machine-lies, machine-stands}
-use Rattle.machine.proofs.state.Machine as T
-use Rattle.machine.proofs.state.Machine.Laws as T′
-use Rattle.machine.proofs.state.Called as S
-use Rattle.machine.proofs.state.Called.Laws as S′
-use Rattle.machine.proofs.answers.Operation as O
-use Rattle.machine.proofs.answers.Operation.Laws as O′
-use Rattle.machine.proofs.answers.Answer as N
-use Rattle.machine.proofs.answers.Answer.Laws as N′
-use Rattle.machine.proofs.state.Machine.give_in_place as given-in-place
-use Rattle.machine.proofs.state.Machine.give_in_place.Symbol as given-def
-use Rattle.machine.proofs.state.Machine.give_in_place.Symbol.{name as #given}
-use Rattle.machine.proofs.state.Machine.give_in_place.Met as given-thm
-use Rattle.machine.proofs.state.Called.answered as answers
-use Rattle.machine.proofs.state.Called.answered.Symbol as answered-def
-use Rattle.machine.proofs.state.Called.answered.Symbol.{name as #answered}
-use Rattle.machine.proofs.state.Called.answered.Met as answered-thm
+use Rattle.rules.proofs.state.Machine as T
+use Rattle.rules.proofs.state.Machine.Laws as T′
+use Rattle.rules.proofs.state.Called as S
+use Rattle.rules.proofs.state.Called.Laws as S′
+use Rattle.rules.proofs.answers.Operation as O
+use Rattle.rules.proofs.answers.Operation.Laws as O′
+use Rattle.rules.proofs.answers.Answer as N
+use Rattle.rules.proofs.answers.Answer.Laws as N′
+use Rattle.machine.proofs.place.give_in_place as given-in-place
+use Rattle.machine.proofs.place.give_in_place.Symbol as given-def
+use Rattle.machine.proofs.place.give_in_place.Symbol.{name as #given}
+use Rattle.machine.proofs.place.give_in_place.Met as given-thm
+use Rattle.rules.proofs.state.Called.answered as answers
+use Rattle.rules.proofs.state.Called.answered.Symbol as answered-def
+use Rattle.rules.proofs.state.Called.answered.Symbol.{name as #answered}
+use Rattle.rules.proofs.state.Called.answered.Met as answered-thm
 use Rattle.machine.proofs.place.give.Key.{name as #here}
 use Rattle.machine.proofs.place.give as here
 use Rattle.machine.proofs.place.give.Statement as stated
@@ -189,5 +189,5 @@ give-spec 𝓤 H 𝓜 𝓖 𝓡 =
     entered 𝓤 H (tripleOf 𝓤 H (𝓖 .A) here.signature (here.spec 𝓤 H (𝓖 .A) (𝓜 .mem) (𝓡 .run)))
     (tables 𝓤 H 𝓜 𝓡 code.env .C) (tables 𝓤 H 𝓜 𝓡 code.env .Λ) #here code.function (code.unfolded 𝓤 H 𝓜 𝓡)
     (meets 𝓤 H (𝓖 .A) (givenOf 𝓤 H 𝓜 𝓖) (𝓜 .mem) (𝓡 .run) (tablesOf 𝓤 H 𝓜 (tables 𝓤 H 𝓜 𝓡 code.env))
-    (cited 𝓤 H (Given′ 𝓤 H (𝓖 .A) (𝓜 .mem) (𝓡 .run)) 𝓜 𝓡 code.env #given given-def.routine code.calls-machine·state·Machine·give-in-place (given-thm.met 𝓤 H 𝓜 𝓖 𝓡))
-    (cited 𝓤 H (Answered 𝓤 H (𝓖 .A) (𝓜 .mem) (𝓡 .run)) 𝓜 𝓡 code.env #answered answered-def.routine code.calls-machine·state·Called·answered (answered-thm.met 𝓤 H 𝓜 𝓖 𝓡)))
+    (cited 𝓤 H (Given′ 𝓤 H (𝓖 .A) (𝓜 .mem) (𝓡 .run)) 𝓜 𝓡 code.env #given given-def.routine code.calls-machine·place·give-in-place (given-thm.met 𝓤 H 𝓜 𝓖 𝓡))
+    (cited 𝓤 H (Answered 𝓤 H (𝓖 .A) (𝓜 .mem) (𝓡 .run)) 𝓜 𝓡 code.env #answered answered-def.routine code.calls-rules·state·Called·answered (answered-thm.met 𝓤 H 𝓜 𝓖 𝓡)))

@@ -42,27 +42,27 @@ use denote.Triple.Clauses.{ensured, lasts}
 use denote.Triple.Table.{entered, cited}
 use denote.Triple.Walked.{Stays, gave-slice, stay-none, walkOf, goes-none, goes-gave-slice, Walks, ends-at, walked, walk-meets}
 use denote.Exit.{yes}
-use Rattle.machine.specs.Answers.{numberOf}
-use Rattle.machine.specs.Calls.{outcome, stepRefusal, stepOf}
+use Rattle.rules.specs.Answers.{numberOf}
+use Rattle.rules.specs.Calls.{outcome, stepRefusal, stepOf}
 use Rattle.machine.specs.Place.{calledAt}
-use Rattle.machine.specs.declared.state.Machine.{Machine}
+use Rattle.rules.specs.declared.state.Machine.{Machine}
 use Rattle.machine.specs.declared.place.Stepped.{Stepped}
 use Rattle.machine.proofs.Many.{says2}
 use Rattle.machine.proofs.Standing.{IsM, machine-lies, machine-stands}
-use Rattle.machine.proofs.state.Machine as T
-use Rattle.machine.proofs.state.Machine.Laws as T′
+use Rattle.rules.proofs.state.Machine as T
+use Rattle.rules.proofs.state.Machine.Laws as T′
 use Rattle.machine.proofs.place.Stepped as E
 use Rattle.machine.proofs.place.Stepped.Laws as E′
-use Rattle.machine.proofs.state.Called as S
-use Rattle.machine.proofs.state.Called.Laws as S′
-use Rattle.machine.proofs.answers.Answer as A′
-use Rattle.machine.proofs.answers.Answer.Laws as A″
-use Rattle.machine.proofs.answers.Handed as D
-use Rattle.machine.proofs.answers.Handed.Laws as D′
-use Rattle.machine.proofs.state.Machine.step_in_place as step
-use Rattle.machine.proofs.state.Machine.step_in_place.Symbol as step-def
-use Rattle.machine.proofs.state.Machine.step_in_place.Symbol.{name as #in-place}
-use Rattle.machine.proofs.state.Machine.step_in_place.Met as step-thm
+use Rattle.rules.proofs.state.Called as S
+use Rattle.rules.proofs.state.Called.Laws as S′
+use Rattle.rules.proofs.answers.Answer as A′
+use Rattle.rules.proofs.answers.Answer.Laws as A″
+use Rattle.rules.proofs.answers.Handed as D
+use Rattle.rules.proofs.answers.Handed.Laws as D′
+use Rattle.machine.proofs.place.step_in_place as step
+use Rattle.machine.proofs.place.step_in_place.Symbol as step-def
+use Rattle.machine.proofs.place.step_in_place.Symbol.{name as #in-place}
+use Rattle.machine.proofs.place.step_in_place.Met as step-thm
 use Rattle.machine.proofs.place.step.Key.{name as #here}
 use Rattle.machine.proofs.place.step as here
 use Rattle.machine.proofs.place.step.Statement as stated
@@ -197,4 +197,4 @@ step-spec 𝓤 H 𝓜 𝓖 𝓡 =
     entered 𝓤 H (tripleOf 𝓤 H (𝓖 .A) here.signature (here.spec 𝓤 H (𝓖 .A) (𝓜 .mem) (𝓡 .run)))
     (tables 𝓤 H 𝓜 𝓡 code.env .C) (tables 𝓤 H 𝓜 𝓡 code.env .Λ) #here code.function (code.unfolded 𝓤 H 𝓜 𝓡)
     (meets 𝓤 H (𝓖 .A) (givenOf 𝓤 H 𝓜 𝓖) (𝓜 .mem) (𝓡 .run) (tablesOf 𝓤 H 𝓜 (tables 𝓤 H 𝓜 𝓡 code.env))
-    (cited 𝓤 H (Step 𝓤 H (𝓖 .A) (𝓜 .mem) (𝓡 .run)) 𝓜 𝓡 code.env #in-place step-def.routine code.calls-machine·state·Machine·step-in-place (step-thm.met 𝓤 H 𝓜 𝓖 𝓡)))
+    (cited 𝓤 H (Step 𝓤 H (𝓖 .A) (𝓜 .mem) (𝓡 .run)) 𝓜 𝓡 code.env #in-place step-def.routine code.calls-machine·place·step-in-place (step-thm.met 𝓤 H 𝓜 𝓖 𝓡)))

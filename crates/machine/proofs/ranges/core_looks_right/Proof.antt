@@ -4,7 +4,7 @@ use Prim.Native.Nat.{_%_}
 use lib.Dec.{eqb}
 use borrow.Author.Needs.{needs}
 use borrow.Author.Tests.{le-leb, lt-leb, lt-ltb, le-ltb, not-true, not-false}
-use Rattle.machine.specs.declared.cores.Core.{Core}
+use Rattle.rules.specs.declared.cores.Core.{Core}
 use Rattle.machine.specs.Looked.{coreLooksRight, looksRightAt}
 use Rattle.machine.proofs.ranges.core_looks_right.Statement.{statement}
 use Rattle.machine.proofs.ranges.core_looks_right.Tie as tie

@@ -1,7 +1,7 @@
 -- `machine::ranges::damaged` meets its contract. Assumes nothing.
 use mathlib.Core.Path.{refl}
 use borrow.Author.Needs.{needs}
-use Rattle.machine.specs.Ranges.{damaged}
+use Rattle.rules.specs.Ranges.{damaged}
 use Rattle.machine.proofs.ranges.damaged.Statement.{statement}
 use Rattle.machine.proofs.ranges.damaged.Tie as tie
 

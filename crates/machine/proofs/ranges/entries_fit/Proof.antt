@@ -1,6 +1,6 @@
 -- `machine::ranges::entries_fit` meets its contract. Assumes nothing.
 use borrow.Author.Needs.{needs}
-use Rattle.machine.proofs.Powers.{entries-fit}
+use Rattle.rules.proofs.Powers.{entries-fit}
 use Rattle.machine.proofs.ranges.entries_fit.Statement.{statement}
 use Rattle.machine.proofs.ranges.entries_fit.Tie as tie
 

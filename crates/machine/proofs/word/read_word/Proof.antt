@@ -1,6 +1,6 @@
 -- `machine::word::read_word` meets its contract. Assumes nothing.
 use borrow.Author.Needs.{needs}
-use Rattle.machine.specs.Word.{readWord}
+use Rattle.rules.specs.Word.{readWord}
 use Rattle.machine.proofs.Bytes.{four-read}
 use Rattle.machine.proofs.word.read_word.Statement.{statement}
 use Rattle.machine.proofs.word.read_word.Tie as tie

@@ -2,7 +2,7 @@
 use native.Mathlib.Omega.{arith}
 use lib.ListN.{length-set}
 use borrow.Author.Needs.{needs}
-use Rattle.machine.specs.Word.{writeWord}
+use Rattle.rules.specs.Word.{writeWord}
 use Rattle.machine.proofs.Bytes.{four-written}
 use Rattle.machine.proofs.word.write_word.Statement.{statement}
 use Rattle.machine.proofs.word.write_word.Tie as tie

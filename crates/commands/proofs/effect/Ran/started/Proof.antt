@@ -1,6 +1,6 @@
 -- `commands::effect::Ran::started` meets its contract. Assumes nothing.
 use Rattle.commands.proofs.effect.Ran.started.Statement.{statement}
-use Rattle.machine.specs.Answers.{numberOf}
+use Rattle.rules.specs.Answers.{numberOf}
 use borrow.Author.Needs.{needs}
 use borrow.Author.Tests.{eq-eqb, ne-eqb}
 use mathlib.Core.Path.{_∙_, sym}

@@ -1,0 +1,14 @@
+pub mod Bools
+pub mod Accepted
+pub mod Powers
+pub mod Numbers
+pub mod Words
+pub mod Kept
+pub mod Kinded
+pub mod Lawful
+pub mod Determined
+pub mod Judging
+pub mod Phases
+pub mod Running
+pub mod Transitions
+pub mod Invariant

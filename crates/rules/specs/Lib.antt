@@ -1,0 +1,13 @@
+pub mod Basics
+pub mod Sizes
+pub mod Entry
+pub mod Word
+pub mod Kinds
+pub mod Life
+pub mod Ranges
+pub mod Answers
+pub mod Calls
+pub mod Laws
+pub mod History
+pub mod Reference
+pub mod Runs
