@@ -1,5 +1,5 @@
 -- A machine where it stands, in its memory: as a value in its cell, as what lies there, and with one of its cores taken out of it, to be read or written and put back.
--- The laws are of the kit's `Cut` at the field and of its `focus` at the element, put together for one core. They say nothing of the crate's rules.
+-- The laws are of the kit's `Cut` at the field and of its `focus` at the element, put together for one core. They say nothing of the rules.
 -- Assumes `Given`.
 use mathlib.Core.Path.{refl, sym, _∙_, subst}
 use Prim.Native.Nat.{ℕ, _+_, _*_, _<_, _%_, _^_}

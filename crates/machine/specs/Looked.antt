@@ -1,4 +1,4 @@
--- No rule of the document: what the code looks at in a core, with a test of several fields at once. Where the sizes fit it asks of the eight cores what `Ranges.antt` asks (`looked` in proofs/Looking.antt), and no public contract cites it.
+-- No rule of the document: what the code looks at in a core, with a test of several fields at once. Where the sizes fit it asks of the eight cores what the page Ranges.antt of `rules` asks (`looked` in proofs/Looking.antt), and no public contract cites it.
 use Prim.Native.Nat.{ℕ, _+_, _*_, _/_, _%_, _^_}
 use mathlib.Core.Bool.{Bool, not, _&&_, _||_}
 use lib.Bits.{bitAnd}

@@ -1,4 +1,5 @@
-// The five calls. Each works out its refusal first, test by test in the order of the rules.
+// `start`, `poke` and `show`, and what the give and the step of place.rt make of their core. Each works out its
+// refusal first, test by test in the order of the rules.
 use crate::ranges;
 use crate::word;
 use rules::Answer;
@@ -17,8 +18,6 @@ ghost use Rattle.rules.specs.Basics.{if_then_else_};
 ghost use Rattle.rules.specs.Answers.{numberOf};
 ghost use Rattle.rules.specs.Entry.{entryOf};
 ghost use Rattle.rules.specs.Ranges.{inRanges};
-ghost use Rattle.machine.specs.Acted.{picked, givenUnless, takenUnless, acted, refusing, actedOf, turnedOf};
-ghost use Rattle.machine.specs.Reach.{Reach};
 ghost use Rattle.rules.specs.Calls.{
   outcome,
   pokeOutcome,
@@ -31,6 +30,8 @@ ghost use Rattle.rules.specs.Calls.{
   pokeOf,
   showOf,
 };
+ghost use Rattle.machine.specs.Acted.{picked, givenUnless, takenUnless, acted, refusing, actedOf, turnedOf};
+ghost use Rattle.machine.specs.Reach.{Reach};
 
 // A refusal's number where its test holds, and else what comes after it.
 fn refuse(test: bool, number: u32, rest: u32) -> u32
