@@ -1,7 +1,8 @@
 // The memory engine: a machine of 1 to 8 guest cores, stepped one micro-step of one core at a time.
 //
 // A public call takes any input. Its contract is an equation to a definition of the crate `rules`,
-// specs/Calls.antt, which says what it answers, hands out and leaves, a refusal too.
+// specs/Calls.antt, which says what it answers, hands out and leaves, a refusal too. The specs/ of this
+// crate have no rule, only what its contracts need beside the rules.
 mod calls;
 mod place;
 mod ranges;
