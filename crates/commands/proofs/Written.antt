@@ -2,17 +2,18 @@
 -- Assumes nothing.
 use mathlib.Core.Path.{_≡_, refl, ap, _∙_, sym}
 use mathlib.Core.Bool.{Bool, true, false}
-use mathlib.Core.List.{List, [], _∷_, _++_}
-use Prim.Native.Nat.{ℕ, zero, suc, _+_, _-_, _*_, _/_, _%_, _^_, _≤_, _<_}
-use native.Mathlib.Nat.{pow-succ', add-zero}
+use mathlib.Core.List.{List, [], _∷_, _++_, append-assoc}
+use Prim.Native.Nat.{ℕ, zero, suc, _+_, _-_, _*_, _/_, _%_, _≤_, _<_}
 use native.Mathlib.Numerals.{add-one}
 use native.Mathlib.Omega.{arith}
-use lib.ListN.{length, take, drop, set, length-set, length-drop}
-use lib.Seq.{take-all}
-use lib.Dec.{ltb}
-use borrow.Author.Tests.{lt-ltb, le-ltb, ltb-true, ltb-false}
+use lib.ListN.{length, take, drop, set, length-set, length-append}
+use lib.Seq.{take-set-le, set-split}
+use lib.Dec.{ltb, leb}
+use borrow.Author.Tests.{lt-ltb, le-ltb, ltb-true, ltb-false, leb-true, leb-false}
 use Rattle.rules.specs.Basics.{if_then_else_}
+use Rattle.commands.specs.Bytes.{putIn}
 use Rattle.commands.specs.Decimal.{digitsBefore, decimal}
+use Rattle.commands.proofs.Placed.{one-digit}
 
 -- more turns than digits change nothing
 pub enough : (f g n : ℕ) (s : List ℕ) → n < f → n < g → digitsBefore f n s ≡ digitsBefore g n s
@@ -34,30 +35,99 @@ pub digits-last : (n : ℕ) (s : List ℕ) → n ≤ 9 → digitsBefore (suc n) 
 unfolding digitsBefore
 digits-last n s l = rw (le-ltb 9 n l)
 
--- a byte in front of those written
-pub in-front : (l : List ℕ) (from x : ℕ) → from < length l → drop from (set l from x) ≡ x ∷ drop (from + 1) l
-in-front l from x h = rw add-one (go l from h)
+-- what is written before other digits
+digits-after : (f n : ℕ) (s : List ℕ) → digitsBefore f n s ≡ digitsBefore f n [] ++ s
+unfolding digitsBefore
+digits-after zero n s = refl
+digits-after (suc f) n s = let x = 48 + n % 10 in go x (ltb 9 n) (digits-after f (n / 10) (x ∷ s)) (digits-after f (n / 10) (x ∷ []))
   where
-    go : (l : List ℕ) (from : ℕ) → from < length l → drop from (set l from x) ≡ x ∷ drop (suc from) l
-    go [] from h = absurd (omega arith)
-    go (a ∷ l) zero h = refl
-    go (a ∷ l) (suc from) h = go l from (omega arith)
+    go : (x : ℕ) (t : Bool) → digitsBefore f (n / 10) (x ∷ s) ≡ digitsBefore f (n / 10) [] ++ x ∷ s → digitsBefore f (n / 10) (x ∷ []) ≡ digitsBefore f (n / 10) [] ++ x ∷ []
+        → (if t then digitsBefore f (n / 10) (x ∷ s) else (48 + n) ∷ s) ≡ (if t then digitsBefore f (n / 10) (x ∷ []) else (48 + n) ∷ []) ++ s
+    go x true p q = p ∙ sym (append-assoc (digitsBefore f (n / 10) []) (x ∷ []) s) ∙ ap (λ (l : List ℕ). l ++ s) (sym q)
+    go x false p q = refl
 
--- there is room for the digits that are left
-pub room-left : (n from : ℕ) → n < 10 ^ (from + 1) → 9 < n → 1 ≤ from
-room-left n zero h l = absurd (omega arith)
-room-left n (suc from) h l = omega arith
+-- a number's last digit follows the others
+pub decimal-on : (n : ℕ) → 9 < n → decimal n ≡ decimal (n / 10) ++ (48 + n % 10) ∷ []
+unfolding decimal
+decimal-on n l = digits-on n [] l ∙ digits-after (suc (n / 10)) (n / 10) ((48 + n % 10) ∷ [])
 
-pub room-on : (n from : ℕ) → 1 ≤ from → n < 10 ^ (from + 1) → n / 10 < 10 ^ (from - 1 + 1)
-room-on n zero l h = absurd (omega arith)
-room-on n (suc from) l h =
-    let e : suc from - 1 + 1 ≡ suc from = omega arith in
-    let k : n < 10 * 10 ^ suc from = rw (pow-succ' 10 (suc from)) at (rw add-one at h) in
-    rw e (omega arith)
+pub one-more : (n : ℕ) → 9 < n → length (decimal n) ≡ 1 + length (decimal (n / 10))
+one-more n l = rw (decimal-on n l, length-append) (omega arith)
 
--- all digits written
-pub all-written : (number left from : ℕ) (digits : List ℕ) → from ≤ 19 → left ≤ 9 → length digits ≡ 20 → decimal number ≡ digitsBefore (suc left) left (drop (from + 1) digits) → take (20 - from) (drop from (set digits from (48 + left))) ≡ decimal number
-all-written number left from digits f l n e =
-    let front : drop from (set digits from (48 + left)) ≡ decimal number = in-front digits from (48 + left) (omega arith) ∙ sym (e ∙ digits-last left (drop (from + 1) digits) l) in
-    let whole : length (drop from (set digits from (48 + left))) ≤ 20 - from = rw (length-drop, length-set) (omega arith) in
-    take-all (20 - from) (drop from (set digits from (48 + left))) whole ∙ front
+pub one-in-all : (n : ℕ) → n ≤ 9 → length (decimal n) ≡ 1
+one-in-all n l = rw (one-digit n l)
+
+pub one-some : (n : ℕ) → 1 ≤ length (decimal n)
+one-some n = go (leb n 9) refl
+  where
+    go : (t : Bool) → leb n 9 ≡ t → 1 ≤ length (decimal n)
+    go true e = let h = one-in-all n (leb-true n 9 e) in omega arith
+    go false e = let h = one-more n (leb-false n 9 e) in omega arith
+
+pub four-more : (n : ℕ) → 9999 < n → length (decimal n) ≡ 4 + length (decimal (n / 10000))
+four-more n l =
+    let e : n / 10 / 10 / 10 / 10 ≡ n / 10000 = omega arith in
+    one-more n (omega arith) ∙ rw (one-more (n / 10) (omega arith), one-more (n / 10 / 10) (omega arith), one-more (n / 10 / 10 / 10) (omega arith), e) (omega arith)
+
+-- a text whose last byte stands in its place already
+put-last : (s : List ℕ) (x at : ℕ) (out : List ℕ) → at + length s < length out → putIn (s ++ x ∷ []) at out ≡ putIn s at (set out (at + length s) x)
+put-last s x at out h =
+    let k = at + length s in
+    let n : at + length (s ++ x ∷ []) ≡ suc k = rw length-append (omega arith) in
+    let front : take at (set out k x) ≡ take at out = take-set-le at out k x (omega arith) in
+    let back : drop k (set out k x) ≡ x ∷ drop (suc k) out = drop-set out k x h in
+    let seam : take at out ++ (s ++ x ∷ []) ≡ take at out ++ s ++ x ∷ [] = sym (append-assoc (take at out) s (x ∷ [])) in
+    rw (n, front, back, seam) (append-assoc (take at out ++ s) (x ∷ []) (drop (suc k) out))
+  where
+    drop-set : (l : List ℕ) (i x : ℕ) → i < length l → drop i (set l i x) ≡ x ∷ drop (suc i) l
+    drop-set [] i x h = absurd (omega arith)
+    drop-set (a ∷ l) zero x h = refl
+    drop-set (a ∷ l) (suc i) x h = drop-set l i x (omega arith)
+
+-- where the writing of a number stands: with the digits of `left`, which end at `to`, all are written
+pub record Writing (number at : ℕ) (out₀ : List ℕ) (left to : ℕ) (out : List ℕ) : Type 0 where
+  pub ends : to ≡ at + length (decimal left)
+  pub room : to ≤ length out
+  pub gives : putIn (decimal left) at out ≡ putIn (decimal number) at out₀
+
+pub writing-begins : (number at : ℕ) (out : List ℕ) (end : ℕ) → end ≡ at + length (decimal number) → at + length (decimal number) ≤ length out → Writing number at out number end out
+writing-begins number at out end e h = record { ends = e; room = omega arith; gives = refl }
+
+pub writing-on : (number at : ℕ) (out₀ : List ℕ) (left to : ℕ) (out : List ℕ) → Writing number at out₀ left to out → 9 < left → Writing number at out₀ (left / 10) (to - 1) (set out (to - 1) (48 + left % 10))
+writing-on number at out₀ left to out w l =
+    let e : to - 1 ≡ at + length (decimal (left / 10)) = let h = w .ends in let k = one-more left l in omega arith in
+    let r : at + length (decimal (left / 10)) < length out = let h = w .ends in let k = one-more left l in let m = w .room in omega arith in
+    record {
+      ends = e;
+      room = let m = w .room in rw length-set (omega arith);
+      gives = rw e (sym (put-last (decimal (left / 10)) (48 + left % 10) at out r)) ∙ ap (λ (s : List ℕ). putIn s at out) (sym (decimal-on left l)) ∙ w .gives;
+    }
+
+-- two at a time
+pub writing-on-two : (number at : ℕ) (out₀ : List ℕ) (left to : ℕ) (out : List ℕ) → Writing number at out₀ left to out → 99 < left → Writing number at out₀ (left / 100) (to - 2) (set (set out (to - 1) (48 + left % 100 % 10)) (to - 2) (48 + left % 100 / 10))
+writing-on-two number at out₀ left to out w l =
+    let n : left / 10 / 10 ≡ left / 100 = omega arith in
+    let t : to - 1 - 1 ≡ to - 2 = omega arith in
+    let low : left % 100 % 10 ≡ left % 10 = omega arith in
+    let high : left % 100 / 10 ≡ left / 10 % 10 = omega arith in
+    rw (low, high, ← n, ← t) (writing-on number at out₀ (left / 10) (to - 1) (set out (to - 1) (48 + left % 10)) (writing-on number at out₀ left to out w (omega arith)) (omega arith))
+
+pub two-left : (number at : ℕ) (out₀ : List ℕ) (left to : ℕ) (out : List ℕ) → Writing number at out₀ left to out → 99 < left → 2 ≤ to
+two-left number at out₀ left to out w l = let e = w .ends in let k = one-more left (omega arith) in let m = one-more (left / 10) (omega arith) in omega arith
+
+pub writing-ends : (number at : ℕ) (out₀ : List ℕ) (left to : ℕ) (out : List ℕ) → Writing number at out₀ left to out → left ≤ 9 → set out at (48 + left) ≡ putIn (decimal number) at out₀
+writing-ends number at out₀ left to out w l =
+    let n = one-in-all left l in
+    let h : at < length out = let e = w .ends in let r = w .room in omega arith in
+    set-split out at (48 + left) h ∙ sym (rw (one-digit left l, add-one) (append-assoc (take at out) ((48 + left) ∷ []) (drop (suc at) out))) ∙ w .gives
+
+pub writing-ends-two : (number at : ℕ) (out₀ : List ℕ) (left to : ℕ) (out : List ℕ) → Writing number at out₀ left to out → 9 < left → left ≤ 99 → set (set out (at + 1) (48 + left % 10)) at (48 + left / 10) ≡ putIn (decimal number) at out₀
+writing-ends-two number at out₀ left to out w l h =
+    let e : to - 1 ≡ at + 1 = let e = w .ends in let k = one-more left l in let m = one-in-all (left / 10) (omega arith) in omega arith in
+    rw (← e) (writing-ends number at out₀ (left / 10) (to - 1) (set out (to - 1) (48 + left % 10)) (writing-on number at out₀ left to out w l) (omega arith))
+
+pub two-ends : (number at : ℕ) (out₀ : List ℕ) (left to : ℕ) (out : List ℕ) → Writing number at out₀ left to out → 9 < left → at + 1 < length out
+two-ends number at out₀ left to out w l = let e = w .ends in let r = w .room in let k = one-more left l in let m = one-some (left / 10) in omega arith
+
+pub one-ends : (number at : ℕ) (out₀ : List ℕ) (left to : ℕ) (out : List ℕ) → Writing number at out₀ left to out → at < length out
+one-ends number at out₀ left to out w = let e = w .ends in let r = w .room in let m = one-some left in omega arith

@@ -1,8 +1,7 @@
 // Decimal numbers without needless zeros, read and written.
-use crate::bytes;
 ghost use mathlib.Core.Path.{_≡_};
 ghost use mathlib.Core.Bool.{_&&_};
-ghost use Prim.Native.Nat.{_+_, _≤_};
+ghost use Prim.Native.Nat.{_+_, _<_, _≤_};
 ghost use lib.ListN.{length, drop, getD};
 ghost use lib.Dec.{eqb};
 ghost use Rattle.commands.specs.Bytes.{putIn};
@@ -96,20 +95,59 @@ pub(crate) fn field_at(line: &[u8], from: usize) -> Field
     }
 }
 
-// Writes a number's digits in at a place, and answers where they end.
+fn few_digits(n: u64) -> usize
+    requires { ⌜ n < 10000 ⌝ }
+    ensures { λ r. ⌜ r ≡ length (decimal n) ⌝ }
+    ensures { λ r. ⌜ r ≤ 4 ⌝ }
+{
+    if n < 100 {
+        if n < 10 { 1 } else { 2 }
+    } else {
+        if n < 1000 { 3 } else { 4 }
+    }
+}
+
+// How many digits a number has.
+fn count_digits(n: u64) -> usize
+    ensures { λ r. ⌜ r ≡ length (decimal n) ⌝ }
+    ensures { λ r. ⌜ r ≤ 20 ⌝ }
+{
+    if n < 10000 {
+        return few_digits(n);
+    }
+    if n < 100000000 {
+        return 4 + few_digits(n / 10000);
+    }
+    if n < 1000000000000 {
+        return 8 + few_digits(n / 100000000);
+    }
+    if n < 10000000000000000 {
+        return 12 + few_digits(n / 1000000000000);
+    }
+    16 + few_digits(n / 10000000000000000)
+}
+
+// Writes a number's digits in at a place, the last first and two to a division, and answers where they end.
 pub(crate) fn put_decimal(number: u64, out: &mut [u8], at: usize) -> usize
     requires { ⌜ at + length (decimal number) ≤ length (now out) ⌝ }
     ensures { λ _. ⌜ now (out .exit) ≡ putIn (decimal number) at (now (out .entry)) ⌝ }
     ensures { λ r. ⌜ r ≡ at + length (decimal number) ⌝ }
 {
-    let mut digits = [0u8; 20];
+    let end = at + count_digits(number);
     let mut left = number;
-    let mut from = 19;
-    while 9 < left {
-        digits[from] = 48 + (left % 10) as u8;
-        left = left / 10;
-        from -= 1;
+    let mut to = end;
+    while 99 < left {
+        let two = left % 100;
+        out[to - 1] = 48 + (two % 10) as u8;
+        out[to - 2] = 48 + (two / 10) as u8;
+        left = left / 100;
+        to -= 2;
     }
-    digits[from] = 48 + left as u8;
-    bytes::put(&digits[from..], out, at)
+    if 9 < left {
+        out[at + 1] = 48 + (left % 10) as u8;
+        out[at] = 48 + (left / 10) as u8;
+        return end;
+    }
+    out[at] = 48 + left as u8;
+    end
 }

@@ -10,12 +10,27 @@ pub(crate) fn least(a: usize, b: usize) -> usize
     if a < b { a } else { b }
 }
 
-// The place of the first newline at or after `from`, or the end.
+// The place of the first newline at or after `from`, or the end. Four bytes to a turn cost less than one.
 pub(crate) fn line_end(bytes: &[u8], from: usize, end: usize) -> usize
     requires { ⌜ (from ≤ end) × (end ≤ length (now bytes)) ⌝ }
     ensures { λ r. ⌜ r ≡ from + length (firstLine (between from end (now (bytes .entry)))) ⌝ }
 {
     let mut at = from;
+    while 4 <= end - at {
+        if bytes[at] == 10 {
+            return at;
+        }
+        if bytes[at + 1] == 10 {
+            return at + 1;
+        }
+        if bytes[at + 2] == 10 {
+            return at + 2;
+        }
+        if bytes[at + 3] == 10 {
+            return at + 3;
+        }
+        at += 4;
+    }
     while at < end {
         if bytes[at] == 10 {
             return at;
