@@ -9,7 +9,9 @@ use lib.ListN.{length, take, drop, length-take, length-append}
 use lib.Seq.{take-at}
 use lib.Dec.{leb, ltb}
 use borrow.Author.Tests.{le-leb, leb-true, ltb-true}
-use Rattle.commands.specs.Effect.{after, runLine}
+use Rattle.commands.specs.Effect.{After, after, runCommand, runLine}
+use Rattle.commands.specs.Grammar.{commandOf}
+use Rattle.commands.specs.declared.grammar.Command.{Command}
 use Rattle.commands.specs.Texts.{answerLine, answerPut, answerEnd, lineRoom}
 use Rattle.commands.specs.declared.effect.Session.{Session}
 use Rattle.commands.specs.declared.effect.Ran.{Ran}
@@ -66,6 +68,11 @@ stops-empty watch w lines out at e = rw e
 put-taken : (out text : List ℕ) (at : ℕ) → at + length text ≤ length out → take (at + length text) (take at out ++ text ++ drop (at + length text) out) ≡ take at out ++ text
 put-taken out text at h =
     take-at (take at out ++ text) (drop (at + length text) out) (at + length text) (length-append (take at out) text ∙ (rw length-take (omega arith)))
+
+-- a line is read, and its command is run
+pub as-line : (session : Session) (memory owners holders line : List ℕ) (did : After) (command : Command) → did ≡ runCommand session memory owners holders command → command ≡ commandOf line → did ≡ runLine session memory owners holders line
+unfolding runLine
+as-line session memory owners holders line did command d e = d ∙ ap (runCommand session memory owners holders) e
 
 -- a line is answered: `ran` is what it left, and `out₁` up to `at₁` the output with its answer
 module _ (watch : Bool) (session : Session) (memory owners holders : List ℕ) (answered : ℕ) (line : List ℕ) (lines : List (List ℕ)) (out : List ℕ) (at : ℕ)

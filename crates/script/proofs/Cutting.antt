@@ -99,6 +99,22 @@ pub scan-other : (bytes : List ℕ) (at end : ℕ) → at < end → end ≤ leng
     → length (firstLine (between at end bytes)) ≡ suc (length (firstLine (between (at + 1) end bytes)))
 scan-other bytes at end low high n = rw (between-cons bytes at end low high, first-other (getD bytes at 0) (between (at + 1) end bytes) n)
 
+-- so many bytes of which none is a newline, and one more
+abbrev pub Past : List ℕ → ℕ → ℕ → ℕ → Type 0
+Past bytes at end k = length (firstLine (between at end bytes)) ≡ k + length (firstLine (between (at + k) end bytes))
+
+pub past-one : (bytes : List ℕ) (at end : ℕ) → at < end → end ≤ length bytes → (getD bytes at 0 ≡ 10 → ⊥) → Past bytes at end 1
+past-one bytes at end low high n = omega (arith, scan-other bytes at end low high n)
+
+pub past-more : (bytes : List ℕ) (at end k : ℕ) → Past bytes at end k → at + k < end → end ≤ length bytes → (getD bytes (at + k) 0 ≡ 10 → ⊥) → Past bytes at end (k + 1)
+past-more bytes at end k p low high n =
+    let e : at + k + 1 ≡ at + (k + 1) = omega arith in
+    let q = rw e at (scan-other bytes (at + k) end low high n) in
+    omega (arith, p, q)
+
+pub found-past : (bytes : List ℕ) (at end k : ℕ) → Past bytes at end k → at + k < end → end ≤ length bytes → getD bytes (at + k) 0 ≡ 10 → length (firstLine (between at end bytes)) ≡ k
+found-past bytes at end k p low high e = let q = scan-newline bytes (at + k) end low high e in omega (arith, p, q)
+
 pub scan-end : (bytes : List ℕ) (at end : ℕ) → end ≤ at → length (firstLine (between at end bytes)) ≡ 0
 scan-end bytes at end h = let e : end - at ≡ 0 = omega arith in rw e
 
