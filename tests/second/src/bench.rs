@@ -13,7 +13,7 @@ use std::time::{Duration, Instant};
 
 /// Rounds in this process, and rounds of whole programs.
 const ROUNDS: usize = 64;
-const PROGRAM_ROUNDS: usize = 9;
+const PROGRAM_ROUNDS: usize = 32;
 
 /// A side's machine, kept for a whole run and stepped where it stands.
 trait Stepped {
