@@ -1,16 +1,16 @@
 -- What the code looks at in each core, in one pass, is what the ranges ask.
 -- Assumes nothing.
 use mathlib.Core.Path.{_≡_, refl, sym, ap, _∙_}
-use mathlib.Core.Bool.{Bool, true, false, not, _&&_, _||_, false≢true}
+use mathlib.Core.Bool.{Bool, true, false, not, _&&_, _||_, false≢true, and-true}
 use Prim.Native.Nat.{ℕ, _/_, _%_, _≤_, _<_}
 use native.Mathlib.Omega.{arith}
 use lib.Dec.{leb, ltb, eqb}
-use borrow.Author.Tests.{leb-true, leb-false, eqb-true, lt-ltb, le-ltb, lt-leb, ne-eqb}
+use borrow.Author.Tests.{leb-true, leb-false, ltb-true, ltb-false, eqb-true, eqb-false, le-leb, lt-ltb, le-ltb, lt-leb, ne-eqb}
 use Rattle.rules.specs.Basics.{if_then_else_, allBelow}
 use Rattle.rules.specs.Sizes.{coresFit, bytesFit, entriesFit}
 use Rattle.rules.specs.Kinds.{isLl, isStore, isSc}
 use Rattle.rules.specs.Ranges.{sizesFit, usesValue, usesRead, usesPassed, inUseOr0, linkFields, operationOccurs, stepOccurs, operationFits, inside, placeFits, coreFits, coreAt, everyCoreFits, inRanges}
-use Rattle.machine.specs.Looked.{stageOf, canBeAt, spare, spareAre0, looksRightAt, coreLooksRight, fitsAt}
+use Rattle.machine.specs.Looked.{stageOf, canBeAt, spare, spareAre0, wordAt, wordsOf, wordsFor, roomOf, looksRightAt, coreLooksRight, fitsAt}
 use Rattle.rules.specs.declared.cores.Core.{Core}
 use Rattle.rules.specs.declared.state.Machine.{Machine}
 use Rattle.rules.proofs.Bools.{and₂, and₃, and₄, same, and-false}
@@ -95,49 +95,73 @@ spare-or : (used : Bool) (field : ℕ) → eqb (spare used field) 0 ≡ used || 
 spare-or true field = refl
 spare-or false field = refl
 
--- an address that is not in use is 0, which is aligned and below any number of bytes
-address-looks : (used : Bool) (a bytes : ℕ) → 0 < bytes → (eqb (spare used a) 0 && eqb (a % 4) 0 && ltb a bytes) ≡ (used || eqb a 0) && (not used || eqb (a % 4) 0 && ltb a bytes)
-address-looks true a bytes l = refl
-address-looks false a bytes l = go (eqb a 0) refl
+-- one comparison of an address in use, of a memory whose sizes fit, and of one that is not
+word-inside : (a bytes : ℕ) → bytes ≤ 65536 → bytes % 4 ≡ 0 → ltb (wordAt a) (bytes / 4) ≡ eqb (a % 4) 0 && ltb a bytes
+word-inside a bytes h e = go (eqb (a % 4) 0) refl (ltb a bytes) refl
   where
-    go : (t : Bool) → eqb a 0 ≡ t → (t && eqb (a % 4) 0 && ltb a bytes) ≡ t && true
-    go true e = rw (eqb-true a 0 e, lt-ltb 0 bytes l)
-    go false e = refl
+    go : (t : Bool) → eqb (a % 4) 0 ≡ t → (u : Bool) → ltb a bytes ≡ u → ltb (wordAt a) (bytes / 4) ≡ t && u
+    go true p true q = let m = eqb-true (a % 4) 0 p in let l = ltb-true a bytes q in lt-ltb (wordAt a) (bytes / 4) (omega arith)
+    go true p false q = let m = eqb-true (a % 4) 0 p in let l = ltb-false a bytes q in le-ltb (wordAt a) (bytes / 4) (omega arith)
+    go false p u q = let m = eqb-false (a % 4) 0 p in le-ltb (wordAt a) (bytes / 4) (omega arith)
 
--- a place below the count, or a core that is neither busy nor linked
-place-looks : (count i : ℕ) (in-use : Bool) → not (leb count i && in-use) ≡ ltb i count || not in-use
-place-looks count i in-use = go (leb count i) refl
+word-nowhere : (a : ℕ) → ltb (wordAt a) 1 ≡ eqb a 0
+word-nowhere a = go (eqb a 0) refl
   where
-    go : (t : Bool) → leb count i ≡ t → not (t && in-use) ≡ ltb i count || not in-use
-    go true e = rw (le-ltb i count (leb-true count i e))
-    go false e = rw (lt-ltb i count (leb-false count i e))
+    go : (t : Bool) → eqb a 0 ≡ t → ltb (wordAt a) 1 ≡ t
+    go true p = let m = eqb-true a 0 p in lt-ltb (wordAt a) 1 (omega arith)
+    go false p = let m = eqb-false a 0 p in le-ltb (wordAt a) 1 (omega arith)
 
--- The tests of the two sides, each side's in its own order. The look's: the stage's three, value and read, then of address and link that they are 0 where
--- spare, aligned and below. The ranges': operation, next step, passed, what occurs, value and read, address and link in use or 0 and inside; the place.
-module _ (n s b v r a₀ k₀ a₄ k₄ a< k< : Bool) (o m u f v′ r′ a k aᵢ kᵢ p : Bool)
+none-below-0 : (n : ℕ) → ltb n 0 ≡ false
+none-below-0 n = le-ltb n 0 (omega arith)
+
+both-idle : (x y : Bool) → (x && y) ≡ (x && true) && (y && true) && true
+both-idle true true = refl
+both-idle true false = refl
+both-idle false y = refl
+
+-- both addresses of the core at a place, in use or 0 and inside, and that they are in use below the count alone
+module _ (count bytes i : ℕ) (h : bytes ≤ 65536) (e : bytes % 4 ≡ 0) (a k : ℕ) where
+  abbrev address-fits : Bool → ℕ → Bool
+  address-fits used a = (used || eqb a 0) && (not used || eqb (a % 4) 0 && ltb a bytes)
+
+  one-looks : (used : Bool) (a : ℕ) → ltb (wordAt a) (roomOf used (bytes / 4)) ≡ address-fits used a
+  one-looks true a = word-inside a bytes h e
+  one-looks false a = word-nowhere a ∙ sym (and-true (eqb a 0))
+
+  addresses-look : (busy linked : Bool) → (ltb (wordAt a) (roomOf busy (wordsFor count bytes i)) && ltb (wordAt k) (roomOf linked (wordsFor count bytes i))) ≡ (address-fits busy a && address-fits linked k) && (ltb i count || not (busy || linked))
+  addresses-look busy linked = go (ltb i count) busy linked
+    where
+      go : (t busy linked : Bool) → (ltb (wordAt a) (roomOf busy (if t then wordsOf bytes else 0)) && ltb (wordAt k) (roomOf linked (if t then wordsOf bytes else 0))) ≡ (address-fits busy a && address-fits linked k) && (t || not (busy || linked))
+      go true busy linked = rw (le-leb bytes 65536 h, one-looks busy a, one-looks linked k) (sym (and-true (address-fits busy a && address-fits linked k)))
+      go false true linked = rw (none-below-0 (wordAt a)) (sym (and-false (address-fits true a && address-fits linked k)))
+      go false false true = rw (none-below-0 (wordAt k)) (and-false (ltb (wordAt a) 1) ∙ sym (and-false (address-fits false a && address-fits true k)))
+      go false false false = rw (word-nowhere a, word-nowhere k) (both-idle (eqb a 0) (eqb k 0))
+
+-- The tests of the two sides, each side's in its own order. The look's: the stage's three, value and read, then of address and link where they can be. The
+-- ranges': operation, next step, passed, what occurs, value and read, address and link in use or 0 and inside; the place.
+module _ (n s b v r a< k< : Bool) (o m u f v′ r′ a k aᵢ kᵢ p : Bool)
     (stage : (n && s && b) ≡ o && m && u && f)
     (uses : (n && s && b) ≡ true → (v ≡ v′) × (r ≡ r′))
-    (address : (a₀ && a₄ && a<) ≡ a && aᵢ)
-    (link : (k₀ && k₄ && k<) ≡ k && kᵢ) where
+    (addresses : (a< && k<) ≡ ((a && aᵢ) && (k && kᵢ)) && p) where
   abbrev looks : Bool
-  looks = p && (n && (s && b && ((v && r && a₀ && k₀) && a₄ && k₄) && a< && k<))
+  looks = n && (s && b && (v && r) && a< && k<)
 
   abbrev asked : Bool
   asked = ((o && m && a) && (v′ && r′ && u) && k) && (f && (aᵢ && kᵢ) && p)
 
   looks-asked : looks ≡ true → asked ≡ true
   looks-asked h =
-      let t = and₂ p (n && (s && b && ((v && r && a₀ && k₀) && a₄ && k₄) && a< && k<)) h in
-      let c = and₂ n (s && b && ((v && r && a₀ && k₀) && a₄ && k₄) && a< && k<) (t .1) in
-      let d = and₃ (s && b && ((v && r && a₀ && k₀) && a₄ && k₄)) a< k< (c .1) in
-      let e = and₃ s b ((v && r && a₀ && k₀) && a₄ && k₄) (d .0) in
-      let g = and₃ (v && r && a₀ && k₀) a₄ k₄ (e .2) in
-      let z = and₄ v r a₀ k₀ (g .0) in
+      let c = and₂ n (s && b && (v && r) && a< && k<) h in
+      let d = and₃ (s && b && (v && r)) a< k< (c .1) in
+      let e = and₃ s b (v && r) (d .0) in
+      let z = and₂ v r (e .2) in
       let st : n && s && b ≡ true = rw (c .0, e .0, e .1) in
       let w = and₄ o m u f (sym stage ∙ st) in
-      let ad = and₂ a aᵢ (sym address ∙ rw (z .2, g .1, d .1)) in
-      let li = and₂ k kᵢ (sym link ∙ rw (z .3, g .2, d .2)) in
-      rw (w .0, w .1, ad .0, sym (uses st .0) ∙ z .0, sym (uses st .1) ∙ z .1, w .2, li .0, w .3, ad .1, li .1, t .0)
+      let g = and₂ ((a && aᵢ) && (k && kᵢ)) p (sym addresses ∙ rw (d .1, d .2)) in
+      let q = and₂ (a && aᵢ) (k && kᵢ) (g .0) in
+      let ad = and₂ a aᵢ (q .0) in
+      let li = and₂ k kᵢ (q .1) in
+      rw (w .0, w .1, ad .0, sym (uses st .0) ∙ z .0, sym (uses st .1) ∙ z .1, w .2, li .0, w .3, ad .1, li .1, g .1)
 
   asked-looks : asked ≡ true → looks ≡ true
   asked-looks h =
@@ -149,15 +173,14 @@ module _ (n s b v r a₀ k₀ a₄ k₄ a< k< : Bool) (o m u f v′ r′ a k a�
       let z = and₂ aᵢ kᵢ (d .1) in
       let st : n && s && b ≡ true = stage ∙ rw (e .0, e .1, g .2, d .0) in
       let w = and₃ n s b st in
-      let ad = and₃ a₀ a₄ a< (address ∙ rw (e .2, z .0)) in
-      let li = and₃ k₀ k₄ k< (link ∙ rw (c .2, z .1)) in
-      rw (d .2, w .0, w .1, w .2, uses st .0 ∙ g .0, uses st .1 ∙ g .1, ad .0, li .0, ad .1, li .1, ad .2, li .2)
+      let q = and₂ a< k< (addresses ∙ rw (e .2, z .0, c .2, z .1, d .2)) in
+      rw (w .0, w .1, w .2, uses st .0 ∙ g .0, uses st .1 ∙ g .1, q .0, q .1)
 
   in-order : looks ≡ asked
   in-order = same looks asked looks-asked asked-looks
 
 -- one core
-module _ (count bytes i : ℕ) (c : Core) (l : 0 < bytes) where
+module _ (count bytes i : ℕ) (c : Core) (h : bytes ≤ 65536) (e : bytes % 4 ≡ 0) where
   abbrev stage : ℕ
   stage = stageOf (c .operation) (c .next)
 
@@ -168,28 +191,28 @@ module _ (count bytes i : ℕ) (c : Core) (l : 0 < bytes) where
       let u = staged (c .busy) (c .passed) (c .operation) (c .next) (leb-true (c .next) 7 (t .0)) (leb-true stage 63 (t .1)) .uses (t .2) in
       (rw (u .0) (spare-or (value-used (c .busy) (c .operation)) (c .value)), rw (u .1) (spare-or (read-used (c .busy) (c .operation) (c .next)) (c .read)))
 
-  core-looks : (not (leb count i && (c .busy || c .linked)) && coreLooksRight bytes c) ≡ coreFits count bytes i c
+  core-looks : coreLooksRight (wordsFor count bytes i) c ≡ coreFits count bytes i c
   unfolding coreLooksRight looksRightAt spareAre0 coreFits
   core-looks =
-      ap (λ (t : Bool). t && coreLooksRight bytes c) (place-looks count i (c .busy || c .linked))
-      ∙ in-order
+      let words = wordsFor count bytes i in
+      in-order
       (leb (c .next) 7) (leb stage 63) (canBeAt (c .busy) (c .passed) stage) (eqb (spare (leb 25 stage) (c .value)) 0) (eqb (spare (eqb stage 20) (c .read)) 0)
-      (eqb (spare (c .busy) (c .address .0)) 0) (eqb (spare (c .linked) (c .link .0)) 0) (eqb (c .address .0 % 4) 0) (eqb (c .link .0 % 4) 0) (ltb (c .address .0) bytes) (ltb (c .link .0) bytes)
+      (ltb (wordAt (c .address .0)) (roomOf (c .busy) words)) (ltb (wordAt (c .link .0)) (roomOf (c .linked) words))
       (c .busy || eqb (c .operation) 0) (c .busy || eqb (c .next) 0) (usesPassed c || not (c .passed)) (operationFits c) (inUseOr0 (usesValue c) (c .value)) (inUseOr0 (usesRead c) (c .read))
       (inUseOr0 (c .busy) (c .address .0)) (linkFields c) (not (c .busy) || inside bytes (c .address)) (not (c .linked) || inside bytes (c .link)) (placeFits count i c)
-      (stage-looks (c .busy) (c .passed) (c .operation) (c .next)) uses-alike (address-looks (c .busy) (c .address .0) bytes l) (address-looks (c .linked) (c .link .0) bytes l)
+      (stage-looks (c .busy) (c .passed) (c .operation) (c .next)) uses-alike (addresses-look count bytes i h e (c .address .0) (c .link .0) (c .busy) (c .linked))
 
--- where the sizes fit there is a byte
-some-byte : (m : Machine) → sizesFit m ≡ true → 0 < m .bytes
-some-byte m h =
+-- where the sizes fit, there are whole words, and no more than fit
+words-fit : (m : Machine) → sizesFit m ≡ true → (m .bytes ≤ 65536) × (m .bytes % 4 ≡ 0)
+words-fit m h =
     let t = and₃ (coresFit (m .count)) (bytesFit (m .bytes)) (entriesFit (m .entries)) h in
     let u = and₃ (leb 4 (m .bytes)) (leb (m .bytes) 65536) (eqb (m .bytes % 4) 0) (t .1) in
-    omega (arith, leb-true 4 (m .bytes) (u .0))
+    (leb-true (m .bytes) 65536 (u .1), eqb-true (m .bytes % 4) 0 (u .2))
 
 -- where the sizes fit, the look at a core asks what the ranges ask of it
 alike : (m : Machine) → sizesFit m ≡ true → (i : ℕ) → fitsAt m i ≡ coreFits (m .count) (m .bytes) i (coreAt m i)
 unfolding fitsAt
-alike m h i = core-looks (m .count) (m .bytes) i (coreAt m i) (some-byte m h)
+alike m h i = core-looks (m .count) (m .bytes) i (coreAt m i) (words-fit m h .0) (words-fit m h .1)
 
 pub looked : (m : Machine) → ((((((((sizesFit m && fitsAt m 0) && fitsAt m 1) && fitsAt m 2) && fitsAt m 3) && fitsAt m 4) && fitsAt m 5) && fitsAt m 6) && fitsAt m 7) ≡ inRanges m
 unfolding inRanges

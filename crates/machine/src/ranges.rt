@@ -7,7 +7,7 @@ ghost use Rattle.rules.specs.Sizes.{coresFit, bytesFit, entriesFit, tablesFit};
 ghost use mathlib.Core.Bool.{_&&_};
 ghost use Rattle.rules.specs.Basics.{if_then_else_};
 ghost use Rattle.rules.specs.Ranges.{sizesFit, inRanges, damaged};
-ghost use Rattle.machine.specs.Looked.{canBeAt, spareAre0, coreLooksRight, fitsAt};
+ghost use Rattle.machine.specs.Looked.{canBeAt, spareAre0, wordAt, wordsOf, wordsFor, roomOf, coreLooksRight, fitsAt};
 
 pub(crate) fn cores_fit(count: usize) -> bool
     ensures { λ r. ⌜ r ≡ coresFit count ⌝ }
@@ -77,16 +77,41 @@ fn spare_are_0(c: Core, stage: u64) -> bool
 {
     let value = spare(25 <= stage, c.value);
     let read = spare(stage == 20, c.read);
-    let address = spare(c.busy, c.address.0);
-    let link = spare(c.linked, c.link.0);
-    (value == 0) & (read == 0) & (address == 0) & (link == 0)
+    (value == 0) & (read == 0)
 }
 
-fn core_looks_right(bytes: usize, c: Core) -> bool
-    ensures { λ r. ⌜ r ≡ coreLooksRight bytes c ⌝ }
+// The address with its two lowest bits moved to the top: one comparison then tells that it is aligned and inside.
+fn word_at(address: u32) -> u32
+    ensures { λ r. ⌜ r ≡ wordAt address ⌝ }
 {
-    let address = c.address.0;
-    let link = c.link.0;
+    address / 4 + address % 4 * 1073741824
+}
+
+fn words_of(bytes: usize) -> u32
+    ensures { λ r. ⌜ r ≡ wordsOf bytes ⌝ }
+{
+    if bytes <= 65536 {
+        (bytes / 4) as u32
+    } else {
+        0
+    }
+}
+
+fn words_for(count: usize, bytes: usize, at: usize) -> u32
+    ensures { λ r. ⌜ r ≡ wordsFor count bytes at ⌝ }
+{
+    if at < count { words_of(bytes) } else { 0 }
+}
+
+fn room_of(used: bool, words: u32) -> u32
+    ensures { λ r. ⌜ r ≡ roomOf used words ⌝ }
+{
+    if used { words } else { 1 }
+}
+
+fn core_looks_right(words: u32, c: Core) -> bool
+    ensures { λ r. ⌜ r ≡ coreLooksRight words c ⌝ }
+{
     let stage = 8 * (c.operation as u64) + (c.next as u64);
     if 7 < c.next {
         return false;
@@ -97,13 +122,13 @@ fn core_looks_right(bytes: usize, c: Core) -> bool
     if !can_be_at(c, stage) {
         return false;
     }
-    if !(spare_are_0(c, stage) & (address % 4 == 0) & (link % 4 == 0)) {
+    if !spare_are_0(c, stage) {
         return false;
     }
-    if bytes <= address as usize {
+    if room_of(c.busy, words) <= word_at(c.address.0) {
         return false;
     }
-    if bytes <= link as usize {
+    if room_of(c.linked, words) <= word_at(c.link.0) {
         return false;
     }
     true
@@ -119,10 +144,7 @@ pub(crate) fn fits_after(before: bool, m: Machine, i: usize) -> bool
     }
     let at = i % 8;
     let c = m.cores[at];
-    if (m.count <= at) & (c.busy | c.linked) {
-        return false;
-    }
-    core_looks_right(m.bytes, c)
+    core_looks_right(words_for(m.count, m.bytes, at), c)
 }
 
 pub(crate) fn in_ranges(m: Machine) -> bool

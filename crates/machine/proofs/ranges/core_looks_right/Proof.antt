@@ -1,17 +1,9 @@
 -- `machine::ranges::core_looks_right` meets its contract. Assumes nothing.
-use mathlib.Core.Bool.{Bool, _&&_}
-use Prim.Native.Nat.{_%_}
-use lib.Dec.{eqb}
-use borrow.Author.Needs.{needs}
 use borrow.Author.Tests.{le-leb, lt-leb, lt-ltb, le-ltb, not-true, not-false}
-use Rattle.rules.specs.declared.cores.Core.{Core}
 use Rattle.machine.specs.Looked.{coreLooksRight, looksRightAt}
+use borrow.Author.Needs.{needs}
 use Rattle.machine.proofs.ranges.core_looks_right.Statement.{statement}
 use Rattle.machine.proofs.ranges.core_looks_right.Tie as tie
-
--- the test of the fields, with what a call answered of the spare ones
-abbrev fields : Bool → Core → Bool
-fields spare c = spare && eqb (c .address .0 % 4) 0 && eqb (c .link .0 % 4) 0
 
 cast-stage : tie.Need-cast-stage
 cast-stage c = search needs
@@ -38,37 +30,38 @@ can-be-at-requires c κs = search needs
 
 returns-3 : tie.Need-returns-3
 unfolding coreLooksRight looksRightAt
-returns-3 c =
-    rw (le-leb _ _ (c .before .before .before .if1 .left), le-leb _ _ (c .before .before .if2 .left), ← c .before .can-be-at .ensures, not-true (c .before .can-be-at .result) (c .if3 .taken))
+returns-3 c = rw (le-leb _ _ (c .before .before .before .if1 .left), le-leb _ _ (c .before .before .if2 .left), ← c .before .can-be-at .ensures, not-true (c .before .can-be-at .result) (c .if3 .taken))
 
 spare-are-0-requires : tie.Need-spare-are-0-requires
 spare-are-0-requires c κs = search needs
 
 returns-4 : tie.Need-returns-4
 unfolding coreLooksRight looksRightAt
-returns-4 c =
-    rw (le-leb _ _ (c .before .before .before .before .before .if1 .left), le-leb _ _ (c .before .before .before .before .if2 .left), ← c .before .before .before .can-be-at .ensures, not-false (c .before .before .before .can-be-at .result) (c .before .before .if3 .left), ← c .before .spare-are-0 .ensures, not-true (fields (c .before .spare-are-0 .result) (c .before .before .before .before .before .before .before .before .before .args .c)) (c .if4 .taken))
+returns-4 c = rw (le-leb _ _ (c .before .before .before .before .before .if1 .left), le-leb _ _ (c .before .before .before .before .if2 .left), ← c .before .before .before .can-be-at .ensures, not-false (c .before .before .before .can-be-at .result) (c .before .before .if3 .left), ← c .before .spare-are-0 .ensures, not-true (c .before .spare-are-0 .result) (c .if4 .taken))
 
-cast-if5 : tie.Need-cast-if5
-cast-if5 c = search needs
+room-of-requires : tie.Need-room-of-requires
+room-of-requires c κs = search needs
+
+word-at-requires : tie.Need-word-at-requires
+word-at-requires c κs = search needs
 
 returns-5 : tie.Need-returns-5
 unfolding coreLooksRight looksRightAt
-returns-5 c =
-    rw (le-leb _ _ (c .before .before .before .before .before .before .if1 .left), le-leb _ _ (c .before .before .before .before .before .if2 .left), ← c .before .before .before .before .can-be-at .ensures, not-false (c .before .before .before .before .can-be-at .result) (c .before .before .before .if3 .left), ← c .before .before .spare-are-0 .ensures, not-false (fields (c .before .before .spare-are-0 .result) (c .before .before .before .before .before .before .before .before .before .before .args .c)) (c .before .if4 .left), le-ltb _ _ (c .if5 .taken))
+returns-5 c = rw (le-leb _ _ (c .before .before .before .before .before .before .before .before .if1 .left), le-leb _ _ (c .before .before .before .before .before .before .before .if2 .left), ← c .before .before .before .before .before .before .can-be-at .ensures, not-false (c .before .before .before .before .before .before .can-be-at .result) (c .before .before .before .before .before .if3 .left), ← c .before .before .before .before .spare-are-0 .ensures, not-false (c .before .before .before .before .spare-are-0 .result) (c .before .before .before .if4 .left), ← c .before .before .room-of .ensures, ← c .before .word-at .ensures, le-ltb _ _ (c .if5 .taken))
 
-cast-if6 : tie.Need-cast-if6
-cast-if6 c = search needs
+room-of-requires-2 : tie.Need-room-of-requires-2
+room-of-requires-2 c κs = search needs
+
+word-at-requires-2 : tie.Need-word-at-requires-2
+word-at-requires-2 c κs = search needs
 
 returns-6 : tie.Need-returns-6
 unfolding coreLooksRight looksRightAt
-returns-6 c =
-    rw (le-leb _ _ (c .before .before .before .before .before .before .before .if1 .left), le-leb _ _ (c .before .before .before .before .before .before .if2 .left), ← c .before .before .before .before .before .can-be-at .ensures, not-false (c .before .before .before .before .before .can-be-at .result) (c .before .before .before .before .if3 .left), ← c .before .before .before .spare-are-0 .ensures, not-false (fields (c .before .before .before .spare-are-0 .result) (c .before .before .before .before .before .before .before .before .before .before .before .args .c)) (c .before .before .if4 .left), lt-ltb _ _ (c .before .if5 .left), le-ltb _ _ (c .if6 .taken))
+returns-6 c = rw (le-leb _ _ (c .before .before .before .before .before .before .before .before .before .before .before .if1 .left), le-leb _ _ (c .before .before .before .before .before .before .before .before .before .before .if2 .left), ← c .before .before .before .before .before .before .before .before .before .can-be-at .ensures, not-false (c .before .before .before .before .before .before .before .before .before .can-be-at .result) (c .before .before .before .before .before .before .before .before .if3 .left), ← c .before .before .before .before .before .before .before .spare-are-0 .ensures, not-false (c .before .before .before .before .before .before .before .spare-are-0 .result) (c .before .before .before .before .before .before .if4 .left), ← c .before .before .before .before .before .room-of .ensures, ← c .before .before .before .before .word-at .ensures, lt-ltb _ _ (c .before .before .before .if5 .left), ← c .before .before .room-of2 .ensures, ← c .before .word-at2 .ensures, le-ltb _ _ (c .if6 .taken))
 
 returns-7 : tie.Need-returns-7
 unfolding coreLooksRight looksRightAt
-returns-7 c =
-    rw (le-leb _ _ (c .before .before .before .before .before .before .before .if1 .left), le-leb _ _ (c .before .before .before .before .before .before .if2 .left), ← c .before .before .before .before .before .can-be-at .ensures, not-false (c .before .before .before .before .before .can-be-at .result) (c .before .before .before .before .if3 .left), ← c .before .before .before .spare-are-0 .ensures, not-false (fields (c .before .before .before .spare-are-0 .result) (c .before .before .before .before .before .before .before .before .before .before .before .args .c)) (c .before .before .if4 .left), lt-ltb _ _ (c .before .if5 .left), lt-ltb _ _ (c .if6 .left))
+returns-7 c = rw (le-leb _ _ (c .before .before .before .before .before .before .before .before .before .before .before .if1 .left), le-leb _ _ (c .before .before .before .before .before .before .before .before .before .before .if2 .left), ← c .before .before .before .before .before .before .before .before .before .can-be-at .ensures, not-false (c .before .before .before .before .before .before .before .before .before .can-be-at .result) (c .before .before .before .before .before .before .before .before .if3 .left), ← c .before .before .before .before .before .before .before .spare-are-0 .ensures, not-false (c .before .before .before .before .before .before .before .spare-are-0 .result) (c .before .before .before .before .before .before .if4 .left), ← c .before .before .before .before .before .room-of .ensures, ← c .before .before .before .before .word-at .ensures, lt-ltb _ _ (c .before .before .before .if5 .left), ← c .before .before .room-of2 .ensures, ← c .before .word-at2 .ensures, lt-ltb _ _ (c .if6 .left))
 
 pub core-looks-right-spec : {M : Type 1} → statement M
 core-looks-right-spec =
@@ -84,8 +77,10 @@ core-looks-right-spec =
     returns-3
     spare-are-0-requires
     returns-4
-    cast-if5
+    room-of-requires
+    word-at-requires
     returns-5
-    cast-if6
+    room-of-requires-2
+    word-at-requires-2
     returns-6
     returns-7)

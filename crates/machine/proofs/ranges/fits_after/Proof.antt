@@ -1,7 +1,7 @@
 -- `machine::ranges::fits_after` meets its contract. Assumes nothing.
-use borrow.Author.Needs.{needs}
 use borrow.Author.Tests.{not-true, not-false}
 use Rattle.machine.specs.Looked.{fitsAt}
+use borrow.Author.Needs.{needs}
 use Rattle.machine.proofs.ranges.fits_after.Statement.{statement}
 use Rattle.machine.proofs.ranges.fits_after.Tie as tie
 
@@ -14,18 +14,23 @@ mul-c c = search needs
 element-copy-out-c : tie.Need-element-copy-out-c
 element-copy-out-c c = search needs
 
-returns-2 : tie.Need-returns-2
-unfolding fitsAt
-returns-2 c = rw (not-false (c .before .before .before .before .args .before) (c .before .before .before .if1 .left), c .if2 .taken)
+words-for-requires : tie.Need-words-for-requires
+words-for-requires c κs = search needs
 
 core-looks-right-requires : tie.Need-core-looks-right-requires
 core-looks-right-requires c κs = search needs
 
-returns-3 : tie.Need-returns-3
+returns-2 : tie.Need-returns-2
 unfolding fitsAt
-returns-3 c = rw (not-false (c .before .before .before .before .before .args .before) (c .before .before .before .before .if1 .left), c .before .if2 .left, c .core-looks-right .ensures)
+returns-2 c = rw (not-false (c .before .before .before .before .args .before) (c .before .before .before .if1 .left), c .core-looks-right .ensures, c .before .words-for .ensures)
 
 pub fits-after-spec : {M : Type 1} → statement M
 fits-after-spec =
     tie.close
-    (tie.spec returns mul-c element-copy-out-c returns-2 core-looks-right-requires returns-3)
+    (tie.spec
+    returns
+    mul-c
+    element-copy-out-c
+    words-for-requires
+    core-looks-right-requires
+    returns-2)
