@@ -5,7 +5,7 @@ use archive::Sought;
 use archive::Whole;
 use archive::Wrote;
 use libc::STDOUT_FILENO;
-use rules::Record;
+use machine::Record;
 
 pub(crate) fn number(n: u64) {
     io::write_all(STDOUT_FILENO, b" ");

@@ -2,8 +2,8 @@
 use crate::say;
 use archive::Writer;
 use libc::STDOUT_FILENO;
-use rules::GuestAddress;
-use rules::Record;
+use machine::GuestAddress;
+use machine::Record;
 ghost use Prim.Native.Nat.{_<_};
 ghost use lib.ListN.{length};
 ghost use mathlib.Core.Path.{_≡_};

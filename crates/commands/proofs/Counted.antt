@@ -11,7 +11,7 @@ use Rattle.rules.specs.declared.entry.GuestAddress.{GuestAddress}
 use Rattle.commands.proofs.decimal.Number as number
 use Rattle.commands.specs.declared.decimal.Number.{Number}
 use Rattle.commands.specs.declared.decimal.Number.the-variants as said
-use Rattle.commands.specs.Grammar.{stepCommand, withAddress, withValue}
+use Rattle.commands.specs.Grammar.{withAddress, withValue}
 use Rattle.commands.proofs.grammar.Numbers.{the-type}
 use Rattle.commands.specs.declared.grammar.Numbers.{Numbers}
 use Rattle.commands.specs.declared.grammar.Numbers.the-variants.{Wrong, One, Two, Three}
@@ -27,12 +27,6 @@ nor : OneOf (0 ∷ 1 ∷ 3 ∷ []) 2 → ⊥
 nor (inl e) = omega arith
 nor (inr (inl e)) = omega arith
 nor (inr (inr e)) = omega arith
-
-pub step-else : (n : Numbers) → OneOf (0 ∷ 2 ∷ 3 ∷ []) (tagOf the-type n) → NotUnderstood ≡ stepCommand n
-step-else Wrong h = refl
-step-else (One a) h = absurd (none h)
-step-else (Two a b) h = refl
-step-else (Three a b c) h = refl
 
 pub address-else : (f : GuestAddress → Command) (n : Numbers) → OneOf (0 ∷ 2 ∷ 3 ∷ []) (tagOf the-type n) → NotUnderstood ≡ withAddress f n
 address-else f Wrong h = refl

@@ -12,13 +12,14 @@ use lib.Dec.{eqb}
 use Rattle.rules.specs.Basics.{if_then_else_}
 use Rattle.commands.specs.Bytes.{begins, firstField, moreFields, afterField}
 use Rattle.commands.specs.Decimal.{numberIn, nextPlace, fieldOf}
-use Rattle.commands.specs.Grammar.{whereNumber, numbersOf, secondNumber, thirdNumber, giveCommand, operationCommand}
+use Rattle.commands.specs.Grammar.{whereNumber, numbersOf, secondNumber, thirdNumber, stepCommand, giveCommand, operationCommand}
 use Rattle.commands.specs.declared.decimal.Field.{Field}
+use Rattle.commands.specs.declared.decimal.Number.{Number}
 use Rattle.commands.specs.declared.decimal.Number.the-variants as number
 use Rattle.commands.specs.declared.grammar.Numbers.{Numbers}
 use Rattle.commands.specs.declared.grammar.Numbers.the-variants.{Wrong, One, Two, Three}
 use Rattle.commands.specs.declared.grammar.Command.{Command}
-use Rattle.commands.specs.declared.grammar.Command.the-variants.{NotUnderstood}
+use Rattle.commands.specs.declared.grammar.Command.the-variants.{NotUnderstood, Step}
 use Rattle.commands.proofs.Fields.{after-field}
 use Rattle.commands.proofs.Bools.{and₂}
 
@@ -32,6 +33,18 @@ begins-room (w ∷ word) (b ∷ s) h = let k = begins-room word s (and₂ (eqb b
 -- the word at a place of a line
 pub word-room : (word line : List ℕ) (from : ℕ) → from ≤ length line → begins word (drop from line) ≡ true → from + length word ≤ length line
 word-room word line from l h = let k = begins-room word (drop from line) h in let e = length-drop from line in omega (arith, k, e)
+
+-- two numbers or three are no step's
+not-one : (a : ℕ) (s : List ℕ) → NotUnderstood ≡ stepCommand (secondNumber a s)
+unfolding secondNumber thirdNumber
+not-one a s = go (numberIn (firstField s)) (moreFields s) (numberIn (firstField (afterField s))) (moreFields (afterField s))
+  where
+    go : (n : Number) (t : Bool) (m : Number) (u : Bool) → NotUnderstood ≡ stepCommand (whereNumber Wrong n (λ b. if t then whereNumber Wrong m (λ c. if u then Wrong else Three a b c) else Two a b))
+    go number.Wrong t m u = refl
+    go (number.Is b) false m u = refl
+    go (number.Is b) true number.Wrong u = refl
+    go (number.Is b) true (number.Is c) true = refl
+    go (number.Is b) true (number.Is c) false = refl
 
 module _ (line : List ℕ) (from : ℕ) (f : Field) (e : f ≡ fieldOf line from) where
   pub field-number : numberIn (firstField (drop from line)) ≡ f .number
@@ -57,6 +70,17 @@ module _ (line : List ℕ) (from : ℕ) (f : Field) (e : f ≡ fieldOf line from
   pub numbers-one : (a : ℕ) → f .number ≡ number.Is a → f .more ≡ false → One a ≡ numbersOf (drop from line)
   unfolding numbersOf
   numbers-one a n m = rw (field-number ∙ n, field-goes-on ∙ m)
+
+  -- a step's one
+  pub step-wrong : f .number ≡ number.Wrong → NotUnderstood ≡ stepCommand (numbersOf (drop from line))
+  step-wrong n = ap stepCommand (numbers-wrong n)
+
+  pub step-one : (a : ℕ) → f .number ≡ number.Is a → f .more ≡ false → Step a ≡ stepCommand (numbersOf (drop from line))
+  step-one a n m = ap stepCommand (numbers-one a n m)
+
+  pub step-more : (a : ℕ) → f .number ≡ number.Is a → f .more ≡ true → NotUnderstood ≡ stepCommand (numbersOf (drop from line))
+  unfolding numbersOf
+  step-more a n m = rw (field-number ∙ n, field-goes-on ∙ m) (not-one a (afterField (drop from line)))
 
   pub numbers-on : (a : ℕ) → f .number ≡ number.Is a → f .more ≡ true → secondNumber a (drop (f .next) line) ≡ numbersOf (drop from line)
   unfolding numbersOf

@@ -118,6 +118,22 @@ fn give_at(line: &[u8], from: usize) -> Command
     operation_at(core, line, first.next)
 }
 
+// Most lines are steps: their one number is read by itself.
+fn step_at(line: &[u8], from: usize) -> Command
+    requires { ⌜ from ≤ length (now line) ⌝ }
+    ensures { λ r. ⌜ r ≡ stepCommand (numbersOf (drop from (now (line .entry)))) ⌝ }
+{
+    let first = field_at(line, from);
+    let one = first.number;
+    let Number::Is(core) = one else {
+        return Command::NotUnderstood;
+    };
+    if first.more {
+        return Command::NotUnderstood;
+    }
+    Command::Step(core)
+}
+
 fn too_long(line: &[u8]) -> bool
     ensures { λ r. ⌜ r ≡ tooLong (now (line .entry)) ⌝ }
 {
@@ -125,15 +141,6 @@ fn too_long(line: &[u8]) -> bool
 }
 
 // A command's numbers, by how many they are.
-fn step_command(numbers: Numbers) -> Command
-    ensures { λ r. ⌜ r ≡ stepCommand numbers ⌝ }
-{
-    let Numbers::One(core) = numbers else {
-        return Command::NotUnderstood;
-    };
-    Command::Step(core)
-}
-
 fn show_command(numbers: Numbers) -> Command
     ensures { λ r. ⌜ r ≡ withAddress Show numbers ⌝ }
 {
@@ -171,7 +178,7 @@ pub fn read_line(line: &[u8]) -> Command
         return Command::NotUnderstood;
     }
     if begins(line, 0, b"step ") {
-        return step_command(numbers_at(line, 5));
+        return step_at(line, 5);
     }
     if begins(line, 0, b"give ") {
         return give_at(line, 5);
