@@ -95,6 +95,7 @@ pub(crate) fn field_at(line: &[u8], from: usize) -> Field
     }
 }
 
+// How many digits a number of at most four has.
 fn few_digits(n: u64) -> usize
     requires { ⌜ n < 10000 ⌝ }
     ensures { λ r. ⌜ r ≡ length (decimal n) ⌝ }

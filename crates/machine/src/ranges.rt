@@ -87,6 +87,7 @@ fn word_at(address: u32) -> u32
     address / 4 + address % 4 * 1073741824
 }
 
+// The words of a memory. One that is too large is refused before this counts.
 fn words_of(bytes: usize) -> u32
     ensures { λ r. ⌜ r ≡ wordsOf bytes ⌝ }
 {
@@ -97,6 +98,7 @@ fn words_of(bytes: usize) -> u32
     }
 }
 
+// A core at or above the count has no word to be at, and so cannot be busy or linked.
 fn words_for(count: usize, bytes: usize, at: usize) -> u32
     ensures { λ r. ⌜ r ≡ wordsFor count bytes at ⌝ }
 {
