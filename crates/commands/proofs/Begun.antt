@@ -13,7 +13,7 @@ use Rattle.rules.specs.Basics.{if_then_else_}
 use Rattle.rules.specs.Answers.{numberOf}
 use Rattle.rules.specs.Calls.{Outcome, outcome, refused, allIdle, started, startRefusal, startOf}
 use Rattle.commands.specs.Grammar.{commandOf}
-use Rattle.commands.specs.Effect.{After, after, refusedRan, newFits, afterStart, newOf, runCommand, runLine}
+use Rattle.commands.specs.Effect.{After, after, refusedRan, stands, newFits, afterStart, newOf, runCommand, runLine}
 use Rattle.commands.specs.Promises.{Kept, RefusedNewLeaves, Afresh, AcceptedNewStartsAfresh, isNew, NineBeforeTen}
 use Rattle.commands.specs.declared.grammar.Command.{Command}
 use Rattle.commands.specs.declared.grammar.Command.the-variants.{NotUnderstood, New, NewWith, Give, Step, Poke, Show}
@@ -95,7 +95,7 @@ accepted-new-starts-afresh session memory owners holders cores bytes entries h =
     (new-afresh session memory owners holders cores bytes entries (fits session memory owners holders cores bytes entries) refl (ap (λ (a : After). numberOf (a .ran .answer)) (sym e) ∙ h))
 
 -- no machine stands
-before-begun : (session : Session) (memory owners holders : List ℕ) (c : Command) → session .begun ≡ false → (c ≡ NotUnderstood → ⊥) → isNew c ≡ false
+before-begun : (session : Session) (memory owners holders : List ℕ) (c : Command) → stands session ≡ false → (c ≡ NotUnderstood → ⊥) → isNew c ≡ false
     → runCommand session memory owners holders c ≡ after (refusedRan 10 session) memory owners holders
 unfolding runCommand
 before-begun session memory owners holders NotUnderstood b u n = absurd (u refl)

@@ -8,7 +8,7 @@ use native.Mathlib.Omega.{arith}
 use lib.ListN.{length, take, drop, drop-of-length-le}
 use lib.Seq.{take-all, take-length, drop-length}
 use lib.Dec.{leb}
-use borrow.Author.Tests.{leb-true, leb-false}
+use borrow.Author.Tests.{leb-true, leb-false, ne-eqb}
 use Rattle.rules.specs.Basics.{if_then_else_}
 use Rattle.rules.specs.Calls.{Outcome, outcome, PokeOutcome, pokeOutcome, startOf, stepOf, pokeOf, showOf}
 use Rattle.rules.specs.declared.entry.GuestAddress.{GuestAddress}
@@ -23,6 +23,7 @@ use Rattle.commands.specs.Effect.{
   newFits,
   afterStart,
   newOf,
+  stands,
   onceBegun,
   afterStep,
   stepLine,
@@ -95,24 +96,30 @@ module _ (m : Machine) (memory : List ℕ) (b : ℕ) (a : GuestAddress) (v : ℕ
   poke-left = rw (drop-used (m .bytes) memory b u) (ap (λ (o : PokeOutcome). o .memory ++ drop (m .bytes) memory) poked)
 
 -- where a machine stands, and where none does
-pub once-same : (session : Session) (memory owners holders : List ℕ) (done ran : Ran) → ran ≡ (if session .begun then done else refusedRan 10 session) → after ran memory owners holders ≡ onceBegun session memory owners holders (after done memory owners holders)
-once-same session memory owners holders done ran e = rw e (go (session .begun))
+pub once-same : (session : Session) (memory owners holders : List ℕ) (done ran : Ran) → ran ≡ (if stands session then done else refusedRan 10 session) → after ran memory owners holders ≡ onceBegun session memory owners holders (after done memory owners holders)
+once-same session memory owners holders done ran e = rw e (go (stands session))
   where
     go : (t : Bool) → after (if t then done else refusedRan 10 session) memory owners holders ≡ (if t then after done memory owners holders else after (refusedRan 10 session) memory owners holders)
     go true = refl
     go false = refl
 
 pub once-poked : (session : Session) (memory owners holders : List ℕ) (a : GuestAddress) (v : ℕ) (ran : Ran) (m′ : List ℕ)
-    → ran ≡ (if session .begun then ranOf (lentPoke (session .machine) memory a v .called) else refusedRan 10 session)
-    → m′ ≡ (if session .begun then beside (session .machine .bytes) (lentPoke (session .machine) memory a v .memory) memory else memory)
+    → ran ≡ (if stands session then ranOf (lentPoke (session .machine) memory a v .called) else refusedRan 10 session)
+    → m′ ≡ (if stands session then beside (session .machine .bytes) (lentPoke (session .machine) memory a v .memory) memory else memory)
     → after ran m′ owners holders ≡ onceBegun session memory owners holders (pokeLine (session .machine) memory owners holders a v)
-once-poked session memory owners holders a v ran m′ e f = rw (e, f) (go (session .begun))
+once-poked session memory owners holders a v ran m′ e f = rw (e, f) (go (stands session))
   where
     go : (t : Bool) → after (if t then ranOf (lentPoke (session .machine) memory a v .called) else refusedRan 10 session)
         (if t then beside (session .machine .bytes) (lentPoke (session .machine) memory a v .memory) memory else memory) owners holders
         ≡ (if t then pokeLine (session .machine) memory owners holders a v else after (refusedRan 10 session) memory owners holders)
     go true = refl
     go false = refl
+
+pub stands-not : (session : Session) → session .begun ≡ 0 → stands session ≡ false
+stands-not session e = rw e
+
+pub stands-so : (session : Session) → (session .begun ≡ 0 → ⊥) → stands session ≡ true
+stands-so session n = rw (ne-eqb (session .begun) 0 n)
 
 -- what a test decides
 pub where-true : {A : Type 0} (t : Bool) (a b x : A) → t ≡ true → x ≡ a → x ≡ (if t then a else b)

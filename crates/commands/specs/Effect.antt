@@ -31,10 +31,14 @@ after ran memory owners holders = record { ran = ran; memory = memory; owners = 
 
 -- before the first accepted `new`
 abbrev pub noMachine : Session
-noMachine = record { begun = false; machine = allIdle 0 0 0 }
+noMachine = record { begun = 0; machine = allIdle 0 0 0 }
 
 abbrev pub running : Machine → Session
-running m = record { begun = true; machine = m }
+running m = record { begun = 1; machine = m }
+
+-- a machine stands
+abbrev pub stands : Session → Bool
+stands session = not (eqb (session .begun) 0)
 
 abbrev pub refusedRan : ℕ → Session → Ran
 refusedRan number session = record { answer = Refused number; made = Nothing; session = session }
@@ -71,7 +75,7 @@ newOf session memory owners holders cores bytes entries =
 
 -- "script 9, 10", 10: "script line before any accepted `new`"
 abbrev pub onceBegun : Session → List ℕ → List ℕ → List ℕ → After → After
-onceBegun session memory owners holders done = if session .begun then done else after (refusedRan 10 session) memory owners holders
+onceBegun session memory owners holders done = if stands session then done else after (refusedRan 10 session) memory owners holders
 
 abbrev pub giveLine : Machine → ℕ → Operation → Ran
 giveLine m core operation = ranOf (giveOf m core operation)

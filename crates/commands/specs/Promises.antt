@@ -14,7 +14,7 @@ use Rattle.rules.specs.declared.answers.Operation.the-variants.{Load, Ll, Store
 use Rattle.commands.specs.Bytes.{firstField, moreFields, afterField}
 use Rattle.commands.specs.Decimal.{decimal}
 use Rattle.commands.specs.Grammar.{commandOf, lineOf}
-use Rattle.commands.specs.Effect.{After, after, running, refusedRan, newOf, runLine}
+use Rattle.commands.specs.Effect.{stands, After, after, running, refusedRan, newOf, runLine}
 use Rattle.commands.specs.Texts.{wordsOf, newline, answerLine, lineRoom}
 use Rattle.commands.specs.declared.grammar.Command.{Command}
 use Rattle.commands.specs.declared.grammar.Command.the-variants.{NotUnderstood, New, NewWith, Give, Step, Poke, Show}
@@ -120,7 +120,7 @@ isNew (Show a) = false
 -- "script 9, 10": a line that is not understood is answered 9 whether or not a machine stands; any other but a `new` is answered 10 where none stands
 pub record NineThenTen (session : Session) (memory owners holders line : List ℕ) : Type 0 where
   pub nine : commandOf line ≡ NotUnderstood → runLine session memory owners holders line ≡ after (refusedRan 9 session) memory owners holders
-  pub ten : session .begun ≡ false → (commandOf line ≡ NotUnderstood → ⊥) → isNew (commandOf line) ≡ false
+  pub ten : stands session ≡ false → (commandOf line ≡ NotUnderstood → ⊥) → isNew (commandOf line) ≡ false
       → runLine session memory owners holders line ≡ after (refusedRan 10 session) memory owners holders
 
 abbrev pub NineBeforeTen : Type 0

@@ -19,6 +19,7 @@ ghost use Rattle.commands.specs.Effect.{
   ranOf,
   startedRan,
   newOf,
+  stands,
   onceBegun,
   giveLine,
   stepLine,
@@ -29,9 +30,10 @@ ghost use Rattle.commands.specs.Effect.{
   runLine,
 };
 
-// The machine that the lines run on, once a `new` was accepted.
+// The machine that the lines run on: `begun` is 0 before the first accepted `new`, and then 1. It is a whole
+// word, since with a bool before it a machine is copied as an odd number of bytes, which costs more.
 pub struct Session {
-    pub begun: bool,
+    pub begun: u64,
     pub machine: Machine,
 }
 
@@ -62,10 +64,7 @@ impl Ran {
         let answer = called.answer;
         let made = called.made;
         let machine = called.machine;
-        let session = Session {
-            begun: true,
-            machine,
-        };
+        let session = Session { begun: 1, machine };
         Ran {
             answer,
             made,
@@ -99,10 +98,7 @@ pub fn no_machine() -> Session
     let mut holders = [0u8; 0];
     let called = machine::start(0, &mut none, &mut owners, &mut holders);
     let machine = called.machine;
-    Session {
-        begun: false,
-        machine,
-    }
+    Session { begun: 0, machine }
 }
 
 // How much of what is lent a machine uses: no more than there is.
@@ -150,7 +146,7 @@ fn step(
 ) -> Ran
     ensures { λ r. ⌜ after r (now (memory .exit)) (now (owners .exit)) (now (holders .exit)) ≡ onceBegun session (now (memory .entry)) (now (owners .entry)) (now (holders .entry)) (stepLine (session .machine) (now (memory .entry)) (now (owners .entry)) (now (holders .entry)) core) ⌝ }
 {
-    if !session.begun {
+    if session.begun == 0 {
         return Ran::refused(10, session);
     }
     let m = session.machine;
@@ -168,9 +164,9 @@ fn step(
 
 // `give CORE ..`
 fn give(session: Session, core: u32, operation: Operation) -> Ran
-    ensures { λ r. ⌜ r ≡ (if session .begun then giveLine (session .machine) core operation else refusedRan 10 session) ⌝ }
+    ensures { λ r. ⌜ r ≡ (if stands session then giveLine (session .machine) core operation else refusedRan 10 session) ⌝ }
 {
-    if !session.begun {
+    if session.begun == 0 {
         return Ran::refused(10, session);
     }
     let m = session.machine;
@@ -179,10 +175,10 @@ fn give(session: Session, core: u32, operation: Operation) -> Ran
 
 // `poke ADDRESS VALUE`
 fn poke(session: Session, memory: &mut [u8], address: GuestAddress, value: u32) -> Ran
-    ensures { λ r. ⌜ r ≡ (if session .begun then ranOf (lentPoke (session .machine) (now (memory .entry)) address value .called) else refusedRan 10 session) ⌝ }
-    ensures { λ _. ⌜ now (memory .exit) ≡ (if session .begun then beside (session .machine .bytes) (lentPoke (session .machine) (now (memory .entry)) address value .memory) (now (memory .entry)) else now (memory .entry)) ⌝ }
+    ensures { λ r. ⌜ r ≡ (if stands session then ranOf (lentPoke (session .machine) (now (memory .entry)) address value .called) else refusedRan 10 session) ⌝ }
+    ensures { λ _. ⌜ now (memory .exit) ≡ (if stands session then beside (session .machine .bytes) (lentPoke (session .machine) (now (memory .entry)) address value .memory) (now (memory .entry)) else now (memory .entry)) ⌝ }
 {
-    if !session.begun {
+    if session.begun == 0 {
         return Ran::refused(10, session);
     }
     let m = session.machine;
@@ -192,9 +188,9 @@ fn poke(session: Session, memory: &mut [u8], address: GuestAddress, value: u32) 
 
 // `show ADDRESS`
 fn show(session: Session, memory: &[u8], address: GuestAddress) -> Ran
-    ensures { λ r. ⌜ r ≡ (if session .begun then showLine (session .machine) (now (memory .entry)) address else refusedRan 10 session) ⌝ }
+    ensures { λ r. ⌜ r ≡ (if stands session then showLine (session .machine) (now (memory .entry)) address else refusedRan 10 session) ⌝ }
 {
-    if !session.begun {
+    if session.begun == 0 {
         return Ran::refused(10, session);
     }
     let m = session.machine;

@@ -20,7 +20,7 @@ start-requires c κs = search needs
 
 returns : tie.Need-returns
 unfolding startOf startRefusal
-returns c = ap (λ (o : Outcome). record { begun = false; machine = o .called .machine }) (c .before .before .before .before .start .ensures .1)
+returns c = ap (λ (o : Outcome). record { begun = 0; machine = o .called .machine }) (c .before .before .before .before .start .ensures .1)
 
 pub no-machine-spec : {M : Type 1} → statement M
 no-machine-spec =

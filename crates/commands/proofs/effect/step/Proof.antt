@@ -1,10 +1,9 @@
 -- `commands::effect::step` meets its contract. Assumes nothing.
-use Rattle.commands.proofs.Lent.{after-step, where-false, where-true}
+use Rattle.commands.proofs.Lent.{after-step, stands-not, stands-so, where-false, where-true}
 use Rattle.commands.proofs.effect.step.Statement.{statement}
-use Rattle.commands.specs.Effect.{after}
+use Rattle.commands.specs.Effect.{stands, after}
 use Rattle.commands.specs.declared.effect.Ran.{Ran}
 use borrow.Author.Needs.{needs}
-use borrow.Author.Tests.{not-false, not-true}
 use lib.Seq.{length-take-le}
 use mathlib.Core.Path.{ap, sym}
 use Rattle.commands.proofs.effect.step.Tie as tie
@@ -13,7 +12,7 @@ refused-requires : tie.Need-refused-requires
 refused-requires c κs = search needs
 
 returns : tie.Need-returns
-returns c = where-false (c .before .before .before .before .before .before .args .session .begun) _ _ _ (not-true (c .before .before .before .before .before .before .args .session .begun) (c .before .if1 .taken)) (ap (λ (r : Ran). after r (c .before .before .before .before .before .before .args .memory .now) (c .before .before .before .before .before .before .args .owners .now) (c .before .before .before .before .before .before .args .holders .now)) (c .refused .ensures))
+returns c = where-false (stands (c .before .before .before .before .before .before .args .session)) _ _ _ (stands-not (c .before .before .before .before .before .before .args .session) (c .before .if1 .taken)) (ap (λ (r : Ran). after r (c .before .before .before .before .before .before .args .memory .now) (c .before .before .before .before .before .before .args .owners .now) (c .before .before .before .before .before .before .args .holders .now)) (c .refused .ensures))
 
 used-requires : tie.Need-used-requires
 used-requires c κs = search needs
@@ -58,7 +57,7 @@ same-length-3 : tie.Need-same-length-3
 same-length-3 c = search needs
 
 returns-2 : tie.Need-returns-2
-returns-2 c = where-true (c .before .before .before .before .before .before .before .before .before .before .before .before .before .before .before .before .before .before .before .before .args .session .begun) _ _ _ (not-false (c .before .before .before .before .before .before .before .before .before .before .before .before .before .before .before .before .before .before .before .before .args .session .begun) (c .before .before .before .before .before .before .before .before .before .before .before .before .before .before .before .if1 .left)) (after-step (c .before .before .before .before .before .before .before .before .before .before .before .before .before .before .before .before .before .before .before .before .args .session .machine) (c .before .before .before .before .before .before .before .before .before .before .before .before .before .before .before .before .before .before .before .before .args .memory .now) (c .before .before .before .before .before .before .before .before .before .before .before .before .before .before .before .before .before .before .before .before .args .owners .now) (c .before .before .before .before .before .before .before .before .before .before .before .before .before .before .before .before .before .before .before .before .args .holders .now) (c .before .before .before .before .before .before .before .before .before .before .before .before .before .before .before .before .before .before .before .before .args .core) (c .before .before .before .before .before .before .before .before .before .before .before .before .before .used .result) (c .before .before .before .before .before .before .before .before .before .before .before .before .used2 .result) (c .before .before .before .before .before .before .before .before .before .before .before .used3 .result) (c .before .before .before .before .before .before .before .before .before .before .before .before .before .used .ensures .0) (c .before .before .before .before .before .before .before .before .before .before .before .before .used2 .ensures .0) (c .before .before .before .before .before .before .before .before .before .before .before .used3 .ensures .0) (c .before .before .before .before .before .before .before .step .result) (c .before .before .before .before .before .before .before .step .last .1 .0) (c .before .before .before .before .before .before .before .step .last .1 .1 .0) (c .before .before .before .before .before .before .before .step .last .1 .1 .1 .0) (c .before .before .before .before .before .before .before .step .ensures .1) (c .of .result) (c .of .ensures))
+returns-2 c = where-true (stands (c .before .before .before .before .before .before .before .before .before .before .before .before .before .before .before .before .before .before .before .before .args .session)) _ _ _ (stands-so (c .before .before .before .before .before .before .before .before .before .before .before .before .before .before .before .before .before .before .before .before .args .session) (c .before .before .before .before .before .before .before .before .before .before .before .before .before .before .before .if1 .left)) (after-step (c .before .before .before .before .before .before .before .before .before .before .before .before .before .before .before .before .before .before .before .before .args .session .machine) (c .before .before .before .before .before .before .before .before .before .before .before .before .before .before .before .before .before .before .before .before .args .memory .now) (c .before .before .before .before .before .before .before .before .before .before .before .before .before .before .before .before .before .before .before .before .args .owners .now) (c .before .before .before .before .before .before .before .before .before .before .before .before .before .before .before .before .before .before .before .before .args .holders .now) (c .before .before .before .before .before .before .before .before .before .before .before .before .before .before .before .before .before .before .before .before .args .core) (c .before .before .before .before .before .before .before .before .before .before .before .before .before .used .result) (c .before .before .before .before .before .before .before .before .before .before .before .before .used2 .result) (c .before .before .before .before .before .before .before .before .before .before .before .used3 .result) (c .before .before .before .before .before .before .before .before .before .before .before .before .before .used .ensures .0) (c .before .before .before .before .before .before .before .before .before .before .before .before .used2 .ensures .0) (c .before .before .before .before .before .before .before .before .before .before .before .used3 .ensures .0) (c .before .before .before .before .before .before .before .step .result) (c .before .before .before .before .before .before .before .step .last .1 .0) (c .before .before .before .before .before .before .before .step .last .1 .1 .0) (c .before .before .before .before .before .before .before .step .last .1 .1 .1 .0) (c .before .before .before .before .before .before .before .step .ensures .1) (c .of .result) (c .of .ensures))
 
 pub step-spec : {M : Type 1} → statement M
 step-spec =
