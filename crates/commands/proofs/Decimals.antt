@@ -13,6 +13,7 @@ use Rattle.commands.specs.Bytes.{space, firstField, moreFields, afterFie
 use Rattle.commands.specs.Decimal.{largest, isDigit, digitOf, allDigits, valueFrom, numberFrom, numberIn, digitsBefore, decimal}
 use Rattle.commands.specs.declared.decimal.Number.the-variants.{Wrong, Is}
 use Rattle.commands.proofs.Bools.{and₂}
+use Rattle.commands.proofs.Written.{one-some}
 
 -- the byte of a digit
 pub digit-is : (d : ℕ) → d ≤ 9 → isDigit (48 + d) ≡ true
@@ -56,16 +57,7 @@ pub decimal-value : (n : ℕ) → valueFrom 0 (decimal n) ≡ n
 unfolding decimal valueFrom
 decimal-value n = before-value (suc n) n [] (omega arith)
 
--- there is one at least, and the first is 0 only of 0
-before-some : (f n : ℕ) (s : List ℕ) → n < f → 1 ≤ length (digitsBefore f n s)
-unfolding digitsBefore
-before-some zero n s l = absurd (omega arith)
-before-some (suc f) n s l = go (ltb 9 n) refl (λ k. before-some f (n / 10) ((48 + n % 10) ∷ s) (omega arith))
-  where
-    go : (t : Bool) → ltb 9 n ≡ t → (9 < n → 1 ≤ length (digitsBefore f (n / 10) ((48 + n % 10) ∷ s))) → 1 ≤ length (if t then digitsBefore f (n / 10) ((48 + n % 10) ∷ s) else (48 + n) ∷ s)
-    go true e k = k (ltb-true 9 n e)
-    go false e k = omega arith
-
+-- the first is 0 only of 0
 before-first : (f n : ℕ) (s : List ℕ) → n < f → 1 ≤ n → eqb (getD (digitsBefore f n s) 0 0) 48 ≡ false
 unfolding digitsBefore
 before-first zero n s l p = absurd (omega arith)
@@ -87,7 +79,7 @@ unfolding numberIn decimal digitsBefore allDigits valueFrom
 decimal-reads zero l = refl
 decimal-reads (suc n) l =
     let s = decimal (suc n) in
-    let some : 1 ≤ length s = before-some (suc (suc n)) (suc n) [] (omega arith) in
+    let some : 1 ≤ length s = one-some (suc n) in
     let first : eqb (getD s 0 0) 48 ≡ false = before-first (suc (suc n)) (suc n) [] (omega arith) (omega arith) in
     number-is (length s) (allDigits s) (eqb (getD s 0 0) 48) (valueFrom 0 s) (suc n) some (decimal-digits (suc n)) first (decimal-value (suc n)) l
 

@@ -13,7 +13,7 @@ use Rattle.rules.specs.Basics.{if_then_else_}
 use Rattle.rules.specs.declared.entry.GuestAddress.{GuestAddress}
 use Rattle.rules.specs.declared.answers.Operation.the-variants.{Load, Ll, Store, Sc}
 use Rattle.commands.specs.Bytes.{begins, space, firstField, moreFields, afterField}
-use Rattle.commands.specs.Decimal.{largest, isDigit, digitOf, allDigits, valueFrom, numberFrom, numberIn, digitsBefore, decimal}
+use Rattle.commands.specs.Decimal.{largest, isDigit, digitOf, allDigits, valueFrom, numberFrom, numberIn, decimal}
 use Rattle.commands.specs.Grammar.{newWord, giveWord, stepWord, pokeWord, showWord, loadWord, llWord, storeWord, scWord, whereNumber, thirdNumber, secondNumber, numbersOf, stepCommand, withAddress, withValue, newCommand, operationCommand, giveCommand, tooLong, commandOf, operationText, lineOf}
 use Rattle.commands.specs.Promises.{UnderstoodIsWritten, OnlyOne}
 use Rattle.commands.specs.declared.decimal.Number.{Number}
@@ -23,7 +23,8 @@ use Rattle.commands.specs.declared.grammar.Numbers.the-variants.{Wrong, 
 use Rattle.commands.specs.declared.grammar.Command.{Command}
 use Rattle.commands.specs.declared.grammar.Command.the-variants.{NotUnderstood, Give, Poke, Show}
 use Rattle.commands.proofs.Bools.{and₂}
-use Rattle.commands.proofs.Written.{digits-on, digits-last}
+use Rattle.commands.proofs.Placed.{one-digit}
+use Rattle.commands.proofs.Written.{decimal-on}
 
 -- the word that a line begins with
 begins-is : (word s : List ℕ) → begins word s ≡ true → s ≡ word ++ drop (length word) s
@@ -55,16 +56,6 @@ field-then (b ∷ s) m = go (eqb b space) refl m (λ h. field-then s h)
     go false q e h = ap (λ (t : List ℕ). b ∷ t) (h e)
 
 -- one more digit
-before-then : (f n : ℕ) (s t : List ℕ) → digitsBefore f n (s ++ t) ≡ digitsBefore f n s ++ t
-unfolding digitsBefore
-before-then zero n s t = refl
-before-then (suc f) n s t = go (ltb 9 n) (before-then f (n / 10) ((48 + n % 10) ∷ s) t)
-  where
-    go : (u : Bool) → digitsBefore f (n / 10) ((48 + n % 10) ∷ (s ++ t)) ≡ digitsBefore f (n / 10) ((48 + n % 10) ∷ s) ++ t
-        → (if u then digitsBefore f (n / 10) ((48 + n % 10) ∷ (s ++ t)) else (48 + n) ∷ (s ++ t)) ≡ (if u then digitsBefore f (n / 10) ((48 + n % 10) ∷ s) else (48 + n) ∷ s) ++ t
-    go true e = e
-    go false e = refl
-
 digit-byte : (b : ℕ) → isDigit b ≡ true → (digitOf b ≤ 9) × (48 + digitOf b ≡ b)
 digit-byte b h =
     let k = and₂ (leb 48 b) (leb b 57) h in
@@ -73,14 +64,13 @@ digit-byte b h =
     rw h (omega (arith, m), omega (arith, l))
 
 digit-more : (v b : ℕ) → 1 ≤ v → isDigit b ≡ true → decimal (10 * v + digitOf b) ≡ decimal v ++ b ∷ []
-unfolding decimal
 digit-more v b p h =
     let d = digit-byte b h in
     let small = d .0 in
     let byte = d .1 in
     let q : (10 * v + digitOf b) / 10 ≡ v = omega (arith, small) in
     let r : 48 + (10 * v + digitOf b) % 10 ≡ b = omega (arith, small, byte) in
-    digits-on (10 * v + digitOf b) [] (omega (arith, p)) ∙ rw (q, r) (before-then (suc v) v [] (b ∷ []))
+    decimal-on (10 * v + digitOf b) (omega (arith, p)) ∙ rw (q, r)
 
 digits-more : (v : ℕ) (s : List ℕ) → 1 ≤ v → allDigits s ≡ true → decimal (valueFrom v s) ≡ decimal v ++ s
 unfolding valueFrom allDigits
@@ -89,9 +79,8 @@ digits-more v (b ∷ s) p h =
     let k = and₂ (isDigit b) (allDigits s) h in
     digits-more (10 * v + digitOf b) s (omega (arith, p)) (k .1) ∙ ap (λ (t : List ℕ). t ++ s) (digit-more v b p (k .0)) ∙ append-assoc (decimal v) (b ∷ []) s
 
-one-digit : (b : ℕ) → isDigit b ≡ true → decimal (digitOf b) ≡ b ∷ []
-unfolding decimal
-one-digit b h = let d = digit-byte b h in digits-last (digitOf b) [] (d .0) ∙ ap (λ (c : ℕ). c ∷ []) (d .1)
+digit-alone : (b : ℕ) → isDigit b ≡ true → decimal (digitOf b) ≡ b ∷ []
+digit-alone b h = let d = digit-byte b h in one-digit (digitOf b) (d .0) ∙ ap (λ (c : ℕ). c ∷ []) (d .1)
 
 -- what a field that is a number says of its bytes
 is-number : (t : Bool) (v n : ℕ) → (if t then number.Is v else number.Wrong) ≡ number.Is n → (t ≡ true) × (v ≡ n)
@@ -120,7 +109,7 @@ number-bytes (b ∷ []) n e =
     let t = number-tests 1 (allDigits (b ∷ [])) (eqb b 48) (valueFrom 0 (b ∷ [])) n e in
     let d = and₂ (isDigit b) true (t .0) .0 in
     let v : digitOf b ≡ n = (let q = t .2 in omega (arith, q)) in
-    sym (one-digit b d) ∙ ap decimal v
+    sym (digit-alone b d) ∙ ap decimal v
 number-bytes (b ∷ c ∷ s) n e =
     let t = number-tests (length (b ∷ c ∷ s)) (allDigits (b ∷ c ∷ s)) (eqb b 48) (valueFrom 0 (b ∷ c ∷ s)) n e in
     let k = and₂ (isDigit b) (allDigits (c ∷ s)) (t .0) in
@@ -130,7 +119,7 @@ number-bytes (b ∷ c ∷ s) n e =
     let byte = digit-byte b (k .0) .1 in
     let some : 1 ≤ 10 * 0 + digitOf b = above (digitOf b) byte other in
     let v : 10 * 0 + digitOf b ≡ digitOf b = omega arith in
-    sym (sym (ap decimal (t .2)) ∙ digits-more (10 * 0 + digitOf b) (c ∷ s) some (k .1) ∙ ap (λ (w : ℕ). decimal w ++ c ∷ s) v ∙ ap (λ (r : List ℕ). r ++ c ∷ s) (one-digit b (k .0)))
+    sym (sym (ap decimal (t .2)) ∙ digits-more (10 * 0 + digitOf b) (c ∷ s) some (k .1) ∙ ap (λ (w : ℕ). decimal w ++ c ∷ s) v ∙ ap (λ (r : List ℕ). r ++ c ∷ s) (digit-alone b (k .0)))
   where
     above : (d : ℕ) → 48 + d ≡ b → (b ≡ 48 → ⊥) → 1 ≤ 10 * 0 + d
     above zero q o = absurd (o (sym q))

@@ -31,25 +31,21 @@ pub digits-on : (n : ℕ) (s : List ℕ) → 9 < n → digitsBefore (suc n) n s 
 unfolding digitsBefore
 digits-on n s l = rw (lt-ltb 9 n l) (enough n (suc (n / 10)) (n / 10) ((48 + n % 10) ∷ s) (omega arith) (omega arith))
 
-pub digits-last : (n : ℕ) (s : List ℕ) → n ≤ 9 → digitsBefore (suc n) n s ≡ (48 + n) ∷ s
-unfolding digitsBefore
-digits-last n s l = rw (le-ltb 9 n l)
-
 -- what is written before other digits
-digits-after : (f n : ℕ) (s : List ℕ) → digitsBefore f n s ≡ digitsBefore f n [] ++ s
+before-then : (f n : ℕ) (s t : List ℕ) → digitsBefore f n (s ++ t) ≡ digitsBefore f n s ++ t
 unfolding digitsBefore
-digits-after zero n s = refl
-digits-after (suc f) n s = let x = 48 + n % 10 in go x (ltb 9 n) (digits-after f (n / 10) (x ∷ s)) (digits-after f (n / 10) (x ∷ []))
+before-then zero n s t = refl
+before-then (suc f) n s t = go (ltb 9 n) (before-then f (n / 10) ((48 + n % 10) ∷ s) t)
   where
-    go : (x : ℕ) (t : Bool) → digitsBefore f (n / 10) (x ∷ s) ≡ digitsBefore f (n / 10) [] ++ x ∷ s → digitsBefore f (n / 10) (x ∷ []) ≡ digitsBefore f (n / 10) [] ++ x ∷ []
-        → (if t then digitsBefore f (n / 10) (x ∷ s) else (48 + n) ∷ s) ≡ (if t then digitsBefore f (n / 10) (x ∷ []) else (48 + n) ∷ []) ++ s
-    go x true p q = p ∙ sym (append-assoc (digitsBefore f (n / 10) []) (x ∷ []) s) ∙ ap (λ (l : List ℕ). l ++ s) (sym q)
-    go x false p q = refl
+    go : (u : Bool) → digitsBefore f (n / 10) ((48 + n % 10) ∷ (s ++ t)) ≡ digitsBefore f (n / 10) ((48 + n % 10) ∷ s) ++ t
+        → (if u then digitsBefore f (n / 10) ((48 + n % 10) ∷ (s ++ t)) else (48 + n) ∷ (s ++ t)) ≡ (if u then digitsBefore f (n / 10) ((48 + n % 10) ∷ s) else (48 + n) ∷ s) ++ t
+    go true e = e
+    go false e = refl
 
 -- a number's last digit follows the others
 pub decimal-on : (n : ℕ) → 9 < n → decimal n ≡ decimal (n / 10) ++ (48 + n % 10) ∷ []
 unfolding decimal
-decimal-on n l = digits-on n [] l ∙ digits-after (suc (n / 10)) (n / 10) ((48 + n % 10) ∷ [])
+decimal-on n l = digits-on n [] l ∙ before-then (suc (n / 10)) (n / 10) [] ((48 + n % 10) ∷ [])
 
 pub one-more : (n : ℕ) → 9 < n → length (decimal n) ≡ 1 + length (decimal (n / 10))
 one-more n l = rw (decimal-on n l, length-append) (omega arith)
