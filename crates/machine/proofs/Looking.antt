@@ -7,14 +7,13 @@ use native.Mathlib.Omega.{arith}
 use lib.Dec.{leb, ltb, eqb}
 use borrow.Author.Tests.{leb-true, leb-false, ltb-true, ltb-false, eqb-true, eqb-false, le-leb, lt-ltb, le-ltb, lt-leb, ne-eqb}
 use Rattle.rules.specs.Basics.{if_then_else_, allBelow}
-use Rattle.rules.specs.Sizes.{coresFit, bytesFit, entriesFit}
 use Rattle.rules.specs.Kinds.{isLl, isStore, isSc}
 use Rattle.rules.specs.Ranges.{sizesFit, usesValue, usesRead, usesPassed, inUseOr0, linkFields, operationOccurs, stepOccurs, operationFits, inside, placeFits, coreFits, coreAt, everyCoreFits, inRanges}
 use Rattle.machine.specs.Looked.{stageOf, canBeAt, spare, spareAre0, wordAt, wordsOf, wordsFor, roomOf, looksRightAt, coreLooksRight, fitsAt}
 use Rattle.rules.specs.declared.cores.Core.{Core}
 use Rattle.rules.specs.declared.state.Machine.{Machine}
 use Rattle.rules.proofs.Bools.{and₂, and₃, and₄, same, and-false}
-use Rattle.rules.proofs.Accepted.{at-below}
+use Rattle.rules.proofs.Accepted.{at-below, sizes}
 
 -- what the ranges ask of a core's operation, next step and flags
 abbrev stageFits : Bool → Bool → ℕ → ℕ → Bool
@@ -96,8 +95,8 @@ spare-or true field = refl
 spare-or false field = refl
 
 -- one comparison of an address in use, of a memory whose sizes fit, and of one that is not
-word-inside : (a bytes : ℕ) → bytes ≤ 65536 → bytes % 4 ≡ 0 → ltb (wordAt a) (bytes / 4) ≡ eqb (a % 4) 0 && ltb a bytes
-word-inside a bytes h e = go (eqb (a % 4) 0) refl (ltb a bytes) refl
+word-compares : (a bytes : ℕ) → bytes ≤ 65536 → bytes % 4 ≡ 0 → ltb (wordAt a) (bytes / 4) ≡ eqb (a % 4) 0 && ltb a bytes
+word-compares a bytes h e = go (eqb (a % 4) 0) refl (ltb a bytes) refl
   where
     go : (t : Bool) → eqb (a % 4) 0 ≡ t → (u : Bool) → ltb a bytes ≡ u → ltb (wordAt a) (bytes / 4) ≡ t && u
     go true p true q = let m = eqb-true (a % 4) 0 p in let l = ltb-true a bytes q in lt-ltb (wordAt a) (bytes / 4) (omega arith)
@@ -125,7 +124,7 @@ module _ (count bytes i : ℕ) (h : bytes ≤ 65536) (e : bytes % 4 ≡ 0) (a k 
   address-fits used a = (used || eqb a 0) && (not used || eqb (a % 4) 0 && ltb a bytes)
 
   one-looks : (used : Bool) (a : ℕ) → ltb (wordAt a) (roomOf used (bytes / 4)) ≡ address-fits used a
-  one-looks true a = word-inside a bytes h e
+  one-looks true a = word-compares a bytes h e
   one-looks false a = word-nowhere a ∙ sym (and-true (eqb a 0))
 
   addresses-look : (busy linked : Bool) → (ltb (wordAt a) (roomOf busy (wordsFor count bytes i)) && ltb (wordAt k) (roomOf linked (wordsFor count bytes i))) ≡ (address-fits busy a && address-fits linked k) && (ltb i count || not (busy || linked))
@@ -202,17 +201,10 @@ module _ (count bytes i : ℕ) (c : Core) (h : bytes ≤ 65536) (e : bytes % 4 �
       (inUseOr0 (c .busy) (c .address .0)) (linkFields c) (not (c .busy) || inside bytes (c .address)) (not (c .linked) || inside bytes (c .link)) (placeFits count i c)
       (stage-looks (c .busy) (c .passed) (c .operation) (c .next)) uses-alike (addresses-look count bytes i h e (c .address .0) (c .link .0) (c .busy) (c .linked))
 
--- where the sizes fit, there are whole words, and no more than fit
-words-fit : (m : Machine) → sizesFit m ≡ true → (m .bytes ≤ 65536) × (m .bytes % 4 ≡ 0)
-words-fit m h =
-    let t = and₃ (coresFit (m .count)) (bytesFit (m .bytes)) (entriesFit (m .entries)) h in
-    let u = and₃ (leb 4 (m .bytes)) (leb (m .bytes) 65536) (eqb (m .bytes % 4) 0) (t .1) in
-    (leb-true (m .bytes) 65536 (u .1), eqb-true (m .bytes % 4) 0 (u .2))
-
 -- where the sizes fit, the look at a core asks what the ranges ask of it
 alike : (m : Machine) → sizesFit m ≡ true → (i : ℕ) → fitsAt m i ≡ coreFits (m .count) (m .bytes) i (coreAt m i)
 unfolding fitsAt
-alike m h i = core-looks (m .count) (m .bytes) i (coreAt m i) (words-fit m h .0) (words-fit m h .1)
+alike m h i = let s = sizes m h in core-looks (m .count) (m .bytes) i (coreAt m i) (s .most-bytes) (s .words)
 
 pub looked : (m : Machine) → ((((((((sizesFit m && fitsAt m 0) && fitsAt m 1) && fitsAt m 2) && fitsAt m 3) && fitsAt m 4) && fitsAt m 5) && fitsAt m 6) && fitsAt m 7) ≡ inRanges m
 unfolding inRanges

@@ -31,7 +31,7 @@ pub record Sizes (m : Machine) : Type 0 where
   pub words : m .bytes % 4 ≡ 0
   pub entries : entriesFit (m .entries) ≡ true
 
-sizes : (m : Machine) → sizesFit m ≡ true → Sizes m
+pub sizes : (m : Machine) → sizesFit m ≡ true → Sizes m
 sizes m h =
     let t = and₃ (coresFit (m .count)) (bytesFit (m .bytes)) (entriesFit (m .entries)) h in
     let cs = and₂ (leb 1 (m .count)) (leb (m .count) 8) (t .0) in
