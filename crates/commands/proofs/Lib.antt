@@ -7,6 +7,7 @@ pub mod Words
 pub mod Written
 pub mod Placed
 pub mod Lent
+pub mod Turning
 pub mod Decimals
 pub mod Handed
 pub mod ReadBack

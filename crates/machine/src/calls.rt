@@ -34,13 +34,13 @@ ghost use Rattle.machine.specs.Acted.{picked, givenUnless, takenUnless, 
 ghost use Rattle.machine.specs.Reach.{Reach};
 
 // A refusal's number where its test holds, and else what comes after it.
-fn refuse(test: bool, number: u32, rest: u32) -> u32
+pub(crate) fn refuse(test: bool, number: u32, rest: u32) -> u32
     ensures { λ r. ⌜ r ≡ (if test then number else rest) ⌝ }
 {
     if test { number } else { rest }
 }
 
-fn address_refusal(bytes: usize, a: GuestAddress) -> u32
+pub(crate) fn address_refusal(bytes: usize, a: GuestAddress) -> u32
     ensures { λ r. ⌜ r ≡ addressRefusal bytes a ⌝ }
 {
     let place = a.place();
@@ -91,13 +91,13 @@ fn give_refusal(fits: bool, m: Machine, c: Core, core: usize, operation: Operati
     address_refusal(m.bytes, operation.address())
 }
 
-fn given_unless(number: u32, c: Core, operation: Operation) -> Core
+pub(crate) fn given_unless(number: u32, c: Core, operation: Operation) -> Core
     ensures { λ r. ⌜ r ≡ givenUnless number c operation ⌝ }
 {
     if number == 0 { c.given(operation) } else { c }
 }
 
-fn taken_unless(number: u32) -> Answer
+pub(crate) fn taken_unless(number: u32) -> Answer
     ensures { λ r. ⌜ r ≡ takenUnless number ⌝ }
 {
     if number == 0 {
@@ -174,7 +174,7 @@ fn refusing(number: u32, core: Core) -> MicroStep
 }
 
 // The core's micro-step, on what stands at its address and at its entry, or none if it is refused.
-fn acted(
+pub(crate) fn acted(
     number: u32,
     c: Core,
     e: usize,

@@ -4,13 +4,19 @@
 // specs/Calls.antt, which says what it answers, hands out and leaves, a refusal too. The specs/ of this
 // crate have no rule, only what its contracts need beside the rules.
 mod calls;
+mod known;
 mod place;
 mod ranges;
 mod word;
 
+pub use calls::Grant;
 pub use calls::poke;
 pub use calls::show;
 pub use calls::start;
+pub use known::give_core;
+pub use known::poke_word;
+pub use known::show_word;
+pub use known::step_core;
 pub use place::Stepped;
 pub use place::give;
 pub use place::give_in_place;
@@ -22,5 +28,6 @@ pub use rules::Core;
 pub use rules::GuestAddress;
 pub use rules::Handed;
 pub use rules::Machine;
+pub use rules::MicroStep;
 pub use rules::Operation;
 pub use rules::Record;

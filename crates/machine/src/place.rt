@@ -15,7 +15,7 @@ ghost use Rattle.rules.specs.Calls.{outcome, answered, giveRefusal, giveOf, ste
 ghost use Rattle.rules.specs.Ranges.{inRanges};
 ghost use Rattle.machine.specs.Place.{calledAt};
 
-// What a step in place hands back: the machine stays where it is.
+// What a call hands back that leaves the machine with its caller.
 pub struct Stepped {
     pub answer: Answer,
     pub made: Handed,
