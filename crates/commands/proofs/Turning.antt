@@ -10,7 +10,7 @@ use borrow.Author.Tests.{eqb-true, eqb-false, eq-eqb}
 use Rattle.rules.specs.Basics.{if_then_else_}
 use Rattle.rules.specs.Answers.{numberOf}
 use Rattle.rules.specs.Ranges.{inRanges}
-use Rattle.rules.specs.Calls.{Outcome, PokeOutcome, withCore, startOf, giveOf, stepOf, pokeOf, showOf, wordRefusal, lentFits}
+use Rattle.rules.specs.Calls.{withCore, startOf, giveOf, stepOf, pokeOf, showOf, wordRefusal, lentFits}
 use Rattle.rules.specs.declared.entry.GuestAddress.{GuestAddress}
 use Rattle.rules.specs.declared.answers.Operation.{Operation}
 use Rattle.rules.specs.declared.answers.Answer.{Answer}
@@ -24,7 +24,7 @@ use Rattle.machine.specs.Known.{stepCoreOf, PokedOutcome, pokedOutcome, pokeWor
 use Rattle.machine.specs.declared.place.Stepped.{Stepped}
 use Rattle.machine.proofs.Acting.{put-back}
 use Rattle.machine.proofs.Knowing.{known-calls}
-use Rattle.commands.specs.Effect.{After, after, refusedRan, ranOf, startedRan, newFits, afterStart, newOf, usualEntries, stands, onceBegun, giveLine, afterStep, stepLine, lentPoke, pokeLine, showLine, beside, runCommand}
+use Rattle.commands.specs.Effect.{After, after, refusedRan, ranOf, begunBy, startedRan, newFits, afterStart, newOf, usualEntries, stands, onceBegun, giveLine, afterStep, stepLine, afterPoke, pokeLine, showLine, runCommand}
 use Rattle.commands.specs.Turns.{setUp, oneCore, DidOutcome, didOutcome, giveTurn, afterCore, stepTurn, afterWord, pokeTurn, showTurn, actOn, ranBy, putBy, Sound, Done, LinesAreDone}
 use Rattle.commands.specs.declared.grammar.Command.{Command}
 use Rattle.commands.specs.declared.grammar.Command.the-variants.{NotUnderstood, New, NewWith, Give, Step, Poke, Show}
@@ -72,39 +72,39 @@ module _ (session : Session) (st : stands session ≡ true) (ranges : inRanges (
   own-core : (i : ℕ) → withCore m (i % 8) (picked m i) ≡ m
   own-core i = put-back m (i % 8)
 
-  give-line : (core : ℕ) (o : Operation) → ranBy m core (giveTurn (m .count) (m .bytes) (picked m core) core o) ≡ giveLine m core o
-  give-line core o = ap ranOf (rules .give-is core o)
+  give-line : (core : ℕ) (o : Operation) → ranBy session core (giveTurn (m .count) (m .bytes) (picked m core) core o) ≡ giveLine session core o
+  give-line core o = ap (ranOf session) (rules .give-is core o)
 
-  step-line : (core : ℕ) → putBy m core (stepTurn (m .count) (m .bytes) (m .entries) (picked m core) memory owners holders core) ≡ stepLine m memory owners holders core
+  step-line : (core : ℕ) → putBy session core (stepTurn (m .count) (m .bytes) (m .entries) (picked m core) memory owners holders core) ≡ stepLine session memory owners holders core
   step-line core =
-      ap (afterStep m memory owners holders) (rules .step-is core (take (m .bytes) memory) (take (m .entries) owners) (take (m .entries) holders))
+      ap (afterStep session memory owners holders) (rules .step-is core (take (m .bytes) memory) (take (m .entries) owners) (take (m .entries) holders))
 
   abbrev poking : GuestAddress → ℕ → DidOutcome
   poking a v = didOutcome (pokeTurn (m .bytes) (picked m 0) memory a v .did) (pokeTurn (m .bytes) (picked m 0) memory a v .memory) owners holders
 
-  poke-line : (a : GuestAddress) (v : ℕ) → putBy m 0 (poking a v) ≡ pokeLine m memory owners holders a v
+  poke-line : (a : GuestAddress) (v : ℕ) → putBy session 0 (poking a v) ≡ pokeLine session memory owners holders a v
   poke-line a v =
-      (λ i. after (record { answer = poking a v .did .answer; made = poking a v .did .made; session = record { begun = 1; machine = own-core 0 i } }) (poking a v .memory) owners holders)
-      ∙ ap (λ (p : PokeOutcome). after (ranOf (p .called)) (beside (m .bytes) (p .memory) memory) owners holders) (rules .poke-is (take (m .bytes) memory) a v)
+      (λ i. after (record { answer = poking a v .did .answer; made = poking a v .did .made; session = record { begun = session .begun; machine = own-core 0 i } }) (poking a v .memory) owners holders)
+      ∙ ap (afterPoke session memory owners holders) (rules .poke-is (take (m .bytes) memory) a v)
 
-  show-line : (a : GuestAddress) → ranBy m 0 (showTurn (m .bytes) (picked m 0) memory a) ≡ showLine m memory a
+  show-line : (a : GuestAddress) → ranBy session 0 (showTurn (m .bytes) (picked m 0) memory a) ≡ showLine session memory a
   show-line a =
-      (λ i. record { answer = showTurn (m .bytes) (picked m 0) memory a .answer; made = showTurn (m .bytes) (picked m 0) memory a .made; session = record { begun = 1; machine = own-core 0 i } })
-      ∙ ap ranOf (rules .show-is (take (m .bytes) memory) a)
+      (λ i. record { answer = showTurn (m .bytes) (picked m 0) memory a .answer; made = showTurn (m .bytes) (picked m 0) memory a .made; session = record { begun = session .begun; machine = own-core 0 i } })
+      ∙ ap (ranOf session) (rules .show-is (take (m .bytes) memory) a)
 
   once : (done : After) → done ≡ onceBegun session memory owners holders done
   once done = rw st
 
   on-its-core : (command : Command) → oneCore command .one ≡ true
-      → putBy m (oneCore command .core) (actOn (m .count) (m .bytes) (m .entries) (picked m (oneCore command .core)) memory owners holders command) ≡ runCommand session memory owners holders command
+      → putBy session (oneCore command .core) (actOn (m .count) (m .bytes) (m .entries) (picked m (oneCore command .core)) memory owners holders command) ≡ runCommand session memory owners holders command
   unfolding actOn runCommand
   on-its-core NotUnderstood h = absurd (false≢true h)
   on-its-core (New cores b) h = absurd (false≢true h)
   on-its-core (NewWith cores b e) h = absurd (false≢true h)
-  on-its-core (Give core o) h = ap (λ (r : Ran). after r memory owners holders) (give-line core o) ∙ once (after (giveLine m core o) memory owners holders)
-  on-its-core (Step core) h = step-line core ∙ once (stepLine m memory owners holders core)
-  on-its-core (Poke a v) h = poke-line a v ∙ once (pokeLine m memory owners holders a v)
-  on-its-core (Show a) h = ap (λ (r : Ran). after r memory owners holders) (show-line a) ∙ once (after (showLine m memory a) memory owners holders)
+  on-its-core (Give core o) h = ap (λ (r : Ran). after r memory owners holders) (give-line core o) ∙ once (after (giveLine session core o) memory owners holders)
+  on-its-core (Step core) h = step-line core ∙ once (stepLine session memory owners holders core)
+  on-its-core (Poke a v) h = poke-line a v ∙ once (pokeLine session memory owners holders a v)
+  on-its-core (Show a) h = ap (λ (r : Ran). after r memory owners holders) (show-line a) ∙ once (after (showLine session memory a) memory owners holders)
 
 -- where no machine stands, or the command is for none
 module _ (session : Session) (memory owners holders : List ℕ) where
@@ -120,10 +120,10 @@ module _ (session : Session) (memory owners holders : List ℕ) where
   setting-up NotUnderstood h = refl
   setting-up (New cores b) h = refl
   setting-up (NewWith cores b e) h = refl
-  setting-up (Give core o) h = before (after (giveLine (session .machine) core o) memory owners holders) h
-  setting-up (Step core) h = before (stepLine (session .machine) memory owners holders core) h
-  setting-up (Poke a v) h = before (pokeLine (session .machine) memory owners holders a v) h
-  setting-up (Show a) h = before (after (showLine (session .machine) memory a) memory owners holders) h
+  setting-up (Give core o) h = before (after (giveLine session core o) memory owners holders) h
+  setting-up (Step core) h = before (stepLine session memory owners holders core) h
+  setting-up (Poke a v) h = before (pokeLine session memory owners holders a v) h
+  setting-up (Show a) h = before (after (showLine session memory a) memory owners holders) h
 
 -- a call that is accepted, or refused, leaves a machine in its ranges
 either : (answer : Answer) (P : Type 0) → (numberOf answer ≡ 0 → P) → ((numberOf answer ≡ 0 → ⊥) → P) → P
@@ -176,7 +176,7 @@ module _ (session : Session) (sound : Sound session) (memory owners holders : Li
   started-sound : (called : Called) → (numberOf (called .answer) ≡ 0 → inRanges (called .machine) ≡ true) → Sound (startedRan session called .session)
   started-sound called f = go (eqb (numberOf (called .answer)) 0) refl
     where
-      go : (t : Bool) → eqb (numberOf (called .answer)) 0 ≡ t → Sound ((if t then ranOf called else record { answer = called .answer; made = called .made; session = session }) .session)
+      go : (t : Bool) → eqb (numberOf (called .answer)) 0 ≡ t → Sound ((if t then begunBy called else record { answer = called .answer; made = called .made; session = session }) .session)
       go true e = λ _. f (eqb-true (numberOf (called .answer)) 0 e)
       go false e = sound
 
@@ -193,10 +193,10 @@ module _ (session : Session) (sound : Sound session) (memory owners holders : Li
   stays-sound NotUnderstood = sound
   stays-sound (New cores bytes) = new-sound cores bytes usualEntries
   stays-sound (NewWith cores bytes entries) = new-sound cores bytes entries
-  stays-sound (Give core o) = once-sound (after (giveLine (session .machine) core o) memory owners holders) (give-sound (session .machine) core o)
-  stays-sound (Step core) = once-sound (stepLine (session .machine) memory owners holders core) (step-sound (session .machine) (take (session .machine .bytes) memory) (take (session .machine .entries) owners) (take (session .machine .entries) holders) core)
-  stays-sound (Poke a v) = once-sound (pokeLine (session .machine) memory owners holders a v) (λ h. ap inRanges (poke-same (session .machine) (take (session .machine .bytes) memory) a v) ∙ h)
-  stays-sound (Show a) = once-sound (after (showLine (session .machine) memory a) memory owners holders) (λ h. ap inRanges (show-same (session .machine) (take (session .machine .bytes) memory) a) ∙ h)
+  stays-sound (Give core o) = once-sound (after (giveLine session core o) memory owners holders) (give-sound (session .machine) core o)
+  stays-sound (Step core) = once-sound (stepLine session memory owners holders core) (step-sound (session .machine) (take (session .machine .bytes) memory) (take (session .machine .entries) owners) (take (session .machine .entries) holders) core)
+  stays-sound (Poke a v) = once-sound (pokeLine session memory owners holders a v) (λ h. ap inRanges (poke-same (session .machine) (take (session .machine .bytes) memory) a v) ∙ h)
+  stays-sound (Show a) = once-sound (after (showLine session memory a) memory owners holders) (λ h. ap inRanges (show-same (session .machine) (take (session .machine .bytes) memory) a) ∙ h)
 
 pub lines-are-done : LinesAreDone
 lines-are-done session memory owners holders command sound =

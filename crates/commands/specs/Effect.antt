@@ -43,14 +43,19 @@ stands session = not (eqb (session .begun) 0)
 abbrev pub refusedRan : ℕ → Session → Ran
 refusedRan number session = record { answer = Refused number; made = Nothing; session = session }
 
--- a call's result, with the machine that it hands back
-abbrev pub ranOf : Called → Ran
-ranOf called = record { answer = called .answer; made = called .made; session = running (called .machine) }
+-- a call's result: the machine that it hands back is the session's, which stays as it was but for that
+abbrev pub ranOf : Session → Called → Ran
+ranOf session called =
+    record { answer = called .answer; made = called .made; session = record { begun = session .begun; machine = called .machine } }
+
+-- the result of a start
+abbrev pub begunBy : Called → Ran
+begunBy called = record { answer = called .answer; made = called .made; session = running (called .machine) }
 
 -- "if accepted, starts afresh; if refused, the old machine stays"
 abbrev pub startedRan : Session → Called → Ran
 startedRan session called =
-    if eqb (numberOf (called .answer)) 0 then ranOf called else record { answer = called .answer; made = called .made; session = session }
+    if eqb (numberOf (called .answer)) 0 then begunBy called else record { answer = called .answer; made = called .made; session = session }
 
 -- a machine uses the first bytes of what is lent, as many as its sizes say; the rest stays
 abbrev pub beside : ℕ → List ℕ → List ℕ → List ℕ
@@ -77,29 +82,31 @@ newOf session memory owners holders cores bytes entries =
 abbrev pub onceBegun : Session → List ℕ → List ℕ → List ℕ → After → After
 onceBegun session memory owners holders done = if stands session then done else after (refusedRan 10 session) memory owners holders
 
-abbrev pub giveLine : Machine → ℕ → Operation → Ran
-giveLine m core operation = ranOf (giveOf m core operation)
+abbrev pub giveLine : Session → ℕ → Operation → Ran
+giveLine session core operation = ranOf session (giveOf (session .machine) core operation)
 
-abbrev pub afterStep : Machine → List ℕ → List ℕ → List ℕ → Outcome → After
-afterStep m memory owners holders o =
-    after (ranOf (o .called))
-    (beside (m .bytes) (o .memory) memory)
-    (beside (m .entries) (o .owners) owners)
-    (beside (m .entries) (o .holders) holders)
+abbrev pub afterStep : Session → List ℕ → List ℕ → List ℕ → Outcome → After
+afterStep session memory owners holders o =
+    after (ranOf session (o .called))
+    (beside (session .machine .bytes) (o .memory) memory)
+    (beside (session .machine .entries) (o .owners) owners)
+    (beside (session .machine .entries) (o .holders) holders)
 
-abbrev pub stepLine : Machine → List ℕ → List ℕ → List ℕ → ℕ → After
-stepLine m memory owners holders core =
-    afterStep m memory owners holders (stepOf m (take (m .bytes) memory) (take (m .entries) owners) (take (m .entries) holders) core)
+abbrev pub stepLine : Session → List ℕ → List ℕ → List ℕ → ℕ → After
+stepLine session memory owners holders core =
+    afterStep session memory owners holders
+    (stepOf (session .machine) (take (session .machine .bytes) memory) (take (session .machine .entries) owners) (take (session .machine .entries) holders) core)
 
-abbrev pub lentPoke : Machine → List ℕ → GuestAddress → ℕ → PokeOutcome
-lentPoke m memory a v = pokeOf m (take (m .bytes) memory) a v
+abbrev pub afterPoke : Session → List ℕ → List ℕ → List ℕ → PokeOutcome → After
+afterPoke session memory owners holders o =
+    after (ranOf session (o .called)) (beside (session .machine .bytes) (o .memory) memory) owners holders
 
-abbrev pub pokeLine : Machine → List ℕ → List ℕ → List ℕ → GuestAddress → ℕ → After
-pokeLine m memory owners holders a v =
-    after (ranOf (lentPoke m memory a v .called)) (beside (m .bytes) (lentPoke m memory a v .memory) memory) owners holders
+abbrev pub pokeLine : Session → List ℕ → List ℕ → List ℕ → GuestAddress → ℕ → After
+pokeLine session memory owners holders a v =
+    afterPoke session memory owners holders (pokeOf (session .machine) (take (session .machine .bytes) memory) a v)
 
-abbrev pub showLine : Machine → List ℕ → GuestAddress → Ran
-showLine m memory a = ranOf (showOf m (take (m .bytes) memory) a)
+abbrev pub showLine : Session → List ℕ → GuestAddress → Ran
+showLine session memory a = ranOf session (showOf (session .machine) (take (session .machine .bytes) memory) a)
 
 -- "(64 entries if left out)"
 abbrev pub usualEntries : ℕ
@@ -110,13 +117,13 @@ runCommand session memory owners holders NotUnderstood = after (refusedRan 9 ses
 runCommand session memory owners holders (New cores bytes) = newOf session memory owners holders cores bytes usualEntries
 runCommand session memory owners holders (NewWith cores bytes entries) = newOf session memory owners holders cores bytes entries
 runCommand session memory owners holders (Give core operation) =
-    onceBegun session memory owners holders (after (giveLine (session .machine) core operation) memory owners holders)
+    onceBegun session memory owners holders (after (giveLine session core operation) memory owners holders)
 runCommand session memory owners holders (Step core) =
-    onceBegun session memory owners holders (stepLine (session .machine) memory owners holders core)
+    onceBegun session memory owners holders (stepLine session memory owners holders core)
 runCommand session memory owners holders (Poke a v) =
-    onceBegun session memory owners holders (pokeLine (session .machine) memory owners holders a v)
+    onceBegun session memory owners holders (pokeLine session memory owners holders a v)
 runCommand session memory owners holders (Show a) =
-    onceBegun session memory owners holders (after (showLine (session .machine) memory a) memory owners holders)
+    onceBegun session memory owners holders (after (showLine session memory a) memory owners holders)
 
 -- what a line does
 unfoldable pub runLine : Session → List ℕ → List ℕ → List ℕ → List ℕ → After

@@ -11,10 +11,9 @@ use Rattle.rules.specs.declared.answers.Operation.{Operation}
 use Rattle.rules.specs.declared.answers.Answer.the-variants.{Refused}
 use Rattle.rules.specs.declared.answers.Handed.the-variants.{Nothing}
 use Rattle.rules.specs.declared.cores.Core.{Core}
-use Rattle.rules.specs.declared.state.Machine.{Machine}
 use Rattle.machine.specs.Acted.{Acted, picked}
 use Rattle.machine.specs.Known.{giveCoreOf, stepCoreOf, PokedOutcome, pokeWordOf, showWordOf}
-use Rattle.commands.specs.Effect.{After, after, running, refusedRan, newOf, usualEntries, stands, beside, runCommand}
+use Rattle.commands.specs.Effect.{After, after, refusedRan, newOf, usualEntries, stands, beside, runCommand}
 use Rattle.commands.specs.declared.grammar.Command.{Command}
 use Rattle.commands.specs.declared.grammar.Command.the-variants.{NotUnderstood, New, NewWith, Give, Step, Poke, Show}
 use Rattle.commands.specs.declared.effect.Session.{Session}
@@ -101,11 +100,12 @@ actOn count bytes entries c memory owners holders (Poke a v) = didOutcome (pokeT
 actOn count bytes entries c memory owners holders (Show a) = didOutcome (showTurn bytes c memory a) memory owners holders
 
 -- what the caller makes of it: the core is put in its place
-abbrev pub ranBy : Machine → ℕ → Did → Ran
-ranBy m core d = record { answer = d .answer; made = d .made; session = running (withCore m (core % 8) (d .core)) }
+abbrev pub ranBy : Session → ℕ → Did → Ran
+ranBy session core d =
+    record { answer = d .answer; made = d .made; session = record { begun = session .begun; machine = withCore (session .machine) (core % 8) (d .core) } }
 
-abbrev pub putBy : Machine → ℕ → DidOutcome → After
-putBy m core d = after (ranBy m core (d .did)) (d .memory) (d .owners) (d .holders)
+abbrev pub putBy : Session → ℕ → DidOutcome → After
+putBy session core d = after (ranBy session core (d .did)) (d .memory) (d .owners) (d .holders)
 
 -- a session whose machine, if one stands, is in its ranges
 abbrev pub Sound : Session → Type 0
@@ -114,7 +114,7 @@ Sound session = stands session ≡ true → inRanges (session .machine) ≡ true
 -- a command on its one core, and a command that is set up, are done as the rules say; and what they leave is sound again
 pub record Done (session : Session) (memory owners holders : List ℕ) (command : Command) : Type 0 where
   pub on-its-core : stands session ≡ true → oneCore command .one ≡ true
-      → putBy (session .machine) (oneCore command .core) (actOn (session .machine .count) (session .machine .bytes) (session .machine .entries) (picked (session .machine) (oneCore command .core)) memory owners holders command)
+      → putBy session (oneCore command .core) (actOn (session .machine .count) (session .machine .bytes) (session .machine .entries) (picked (session .machine) (oneCore command .core)) memory owners holders command)
       ≡ runCommand session memory owners holders command
   pub set-up : (stands session ≡ true → oneCore command .one ≡ false) → setUp session memory owners holders command ≡ runCommand session memory owners holders command
   pub stays-sound : Sound (runCommand session memory owners holders command .ran .session)

@@ -9,7 +9,7 @@ ghost use Prim.Native.Nat.{_≤_};
 ghost use lib.ListN.{length};
 ghost use lib.Dec.{leb};
 ghost use Rattle.rules.specs.Basics.{if_then_else_};
-ghost use Rattle.commands.specs.Effect.{after, noMachine, refusedRan, ranOf, startedRan, newOf};
+ghost use Rattle.commands.specs.Effect.{after, noMachine, refusedRan, begunBy, startedRan, newOf};
 ghost use Rattle.commands.specs.Turns.{setUp};
 
 // The machine that the lines run on: `begun` is 0 before the first accepted `new`, and then 1. It is a whole
@@ -40,8 +40,8 @@ impl Ran {
         }
     }
 
-    fn of(called: Called) -> Ran
-        ensures { λ r. ⌜ r ≡ ranOf called ⌝ }
+    fn begun_by(called: Called) -> Ran
+        ensures { λ r. ⌜ r ≡ begunBy called ⌝ }
     {
         let answer = called.answer;
         let made = called.made;
@@ -60,7 +60,7 @@ impl Ran {
     {
         let answer = called.answer;
         if answer.number() == 0 {
-            return Ran::of(called);
+            return Ran::begun_by(called);
         }
         let made = called.made;
         Ran {
