@@ -11,6 +11,7 @@ pub mod Turning
 pub mod Decimals
 pub mod Handed
 pub mod ReadBack
+pub mod ShortSteps
 pub mod OneLine
 pub mod Answers
 pub mod Begun

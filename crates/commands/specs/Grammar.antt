@@ -1,15 +1,15 @@
 -- Document 01, "Script program": the commands, one a line.
-use Prim.Native.Nat.{ℕ}
-use mathlib.Core.Bool.{Bool}
+use Prim.Native.Nat.{ℕ, _-_}
+use mathlib.Core.Bool.{Bool, _&&_}
 use mathlib.Core.List.{List, [], _∷_, _++_}
-use lib.ListN.{length, drop}
-use lib.Dec.{ltb}
+use lib.ListN.{length, getD, drop}
+use lib.Dec.{leb, ltb, eqb}
 use Rattle.rules.specs.Basics.{if_then_else_}
 use Rattle.rules.specs.declared.entry.GuestAddress.{GuestAddress}
 use Rattle.rules.specs.declared.answers.Operation.{Operation}
 use Rattle.rules.specs.declared.answers.Operation.the-variants.{Load, Ll, Store, Sc}
 use Rattle.commands.specs.Bytes.{begins, firstField, moreFields, afterField, space}
-use Rattle.commands.specs.Decimal.{numberIn, decimal}
+use Rattle.commands.specs.Decimal.{isDigit, numberIn, decimal}
 use Rattle.commands.specs.declared.decimal.Number.{Number}
 use Rattle.commands.specs.declared.decimal.Number.the-variants as number
 use Rattle.commands.specs.declared.grammar.Numbers.{Numbers}
@@ -114,6 +114,13 @@ commandOf line =
     else if begins pokeWord line then withValue Poke (numbersOf (drop 5 line))
     else if begins newWord line then newCommand (numbersOf (drop 4 line))
     else NotUnderstood
+
+-- The bytes begin with a step of a core with one digit, and its newline. No rule: such a line is what `commandOf` says (`ShortSteps` in Promises.antt).
+abbrev pub beginsShortStep : List ℕ → Bool
+beginsShortStep s = leb 7 (length s) && (begins stepWord s && isDigit (getD s 5 0) && eqb (getD s 6 0) 10)
+
+unfoldable pub shortStep : List ℕ → Number
+shortStep s = if beginsShortStep s then number.Is (getD s 5 0 - 48) else number.Wrong
 
 -- the line that a command is written as
 unfoldable pub operationText : Operation → List ℕ

@@ -1,5 +1,5 @@
--- What a line of script promises, beside what each call's contract says of it. The proofs are in proofs/Handed, ReadBack, OneLine, Answers and Begun, under these names: FirstBytesDecide is proved by first-bytes-decide.
-use Prim.Native.Nat.{ℕ, _≤_, _<_}
+-- What a line of script promises, beside what each call's contract says of it. The proofs are in proofs/Handed, ReadBack, ShortSteps, OneLine, Answers and Begun, under these names: FirstBytesDecide is proved by first-bytes-decide.
+use Prim.Native.Nat.{ℕ, _+_, _≤_, _<_}
 use mathlib.Core.Path.{_≡_}
 use mathlib.Core.Bool.{Bool, true, false}
 use mathlib.Core.List.{List, [], _∷_, _++_}
@@ -13,9 +13,10 @@ use Rattle.rules.specs.declared.answers.Operation.{Operation}
 use Rattle.rules.specs.declared.answers.Operation.the-variants.{Load, Ll, Store, Sc}
 use Rattle.commands.specs.Bytes.{firstField, moreFields, afterField}
 use Rattle.commands.specs.Decimal.{decimal}
-use Rattle.commands.specs.Grammar.{commandOf, lineOf}
+use Rattle.commands.specs.Grammar.{stepWord, commandOf, shortStep, lineOf}
 use Rattle.commands.specs.Effect.{stands, After, after, running, refusedRan, newOf, runLine}
 use Rattle.commands.specs.Texts.{wordsOf, newline, answerLine, lineRoom}
+use Rattle.commands.specs.declared.decimal.Number.the-variants.{Is}
 use Rattle.commands.specs.declared.grammar.Command.{Command}
 use Rattle.commands.specs.declared.grammar.Command.the-variants.{NotUnderstood, New, NewWith, Give, Step, Poke, Show}
 use Rattle.commands.specs.declared.effect.Session.{Session}
@@ -48,6 +49,15 @@ Writable (Show a) = Small (a .0)
 -- a command that is written and read is the same command
 abbrev pub RoundTrip : Type 0
 RoundTrip = (c : Command) → Writable c → commandOf (lineOf c) ≡ c
+
+-- bytes that begin with a step of one digit and its newline: that line's command
+pub record ShortStep (s : List ℕ) (core : ℕ) : Type 0 where
+  pub one-digit : core ≤ 9
+  pub line : s ≡ stepWord ++ (48 + core) ∷ newline ∷ drop 7 s
+  pub command : commandOf (stepWord ++ (48 + core) ∷ []) ≡ Step core
+
+abbrev pub ShortSteps : Type 0
+ShortSteps = (s : List ℕ) (core : ℕ) → shortStep s ≡ Is core → ShortStep s core
 
 -- a line that is understood is the line of its command
 abbrev pub UnderstoodIsWritten : Type 0

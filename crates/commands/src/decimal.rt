@@ -20,7 +20,7 @@ pub(crate) struct Field {
     pub next: usize,
 }
 
-fn is_digit(b: u8) -> bool
+pub(crate) fn is_digit(b: u8) -> bool
     ensures { λ r. ⌜ r ≡ isDigit b ⌝ }
 {
     (48 <= b) & (b <= 57)

@@ -2,6 +2,7 @@
 use crate::bytes::begins;
 use crate::decimal::Number;
 use crate::decimal::field_at;
+use crate::decimal::is_digit;
 use machine::GuestAddress;
 use machine::Operation;
 ghost use mathlib.Core.Path.{_≡_};
@@ -18,6 +19,7 @@ ghost use Rattle.commands.specs.Grammar.{
   operationCommand,
   tooLong,
   commandOf,
+  shortStep,
 };
 
 // A line that is understood says one of these. An entry count that is left out stays left out.
@@ -193,4 +195,19 @@ pub fn read_line(line: &[u8]) -> Command
         return new_command(numbers_at(line, 4));
     }
     Command::NotUnderstood
+}
+
+// The core of a step, where the bytes begin with a step of a core with one digit, and its newline.
+pub fn short_step(bytes: &[u8]) -> Number
+    ensures { λ r. ⌜ r ≡ shortStep (now (bytes .entry)) ⌝ }
+{
+    if bytes.len() < 7 {
+        return Number::Wrong;
+    }
+    let digit = bytes[5];
+    let newline = bytes[6] == 10;
+    if !(begins(bytes, 0, b"step ") & is_digit(digit) & newline) {
+        return Number::Wrong;
+    }
+    Number::Is((digit - 48) as u32)
 }

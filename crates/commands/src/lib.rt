@@ -17,6 +17,7 @@ pub use effect::set_up;
 pub use grammar::Command;
 pub use grammar::Numbers;
 pub use grammar::read_line;
+pub use grammar::short_step;
 pub use text::answer_line;
 pub use turns::Did;
 pub use turns::OneCore;
