@@ -17,4 +17,7 @@ pub use effect::run_line;
 pub use grammar::Command;
 pub use grammar::Numbers;
 pub use grammar::read_line;
+pub use text::LineNumber;
 pub use text::answer_line;
+pub use text::counted_on;
+pub use text::line_number;
