@@ -10,7 +10,7 @@ use Rattle.rules.specs.declared.answers.Answer.{Answer}
 use Rattle.rules.specs.declared.answers.Answer.the-variants.{Refused, Ready, Taken, Moved, Waits, Load, Ll, Store, Sc, Poked, Word}
 use Rattle.commands.specs.Bytes.{space, firstField, moreFields, afterField}
 use Rattle.commands.specs.Decimal.{decimal}
-use Rattle.commands.specs.Texts.{loadText, llText, scText, wordText, wordsOf, newline, numberText, answerLine}
+use Rattle.commands.specs.Texts.{loadText, llText, scText, wordText, wordsOf, newline, numberText, restOf, lineText, answerLine}
 use Rattle.commands.specs.Promises.{AnswerReads, AllSmall, AnswerFits}
 use Rattle.commands.proofs.Placed.{decimal-few}
 use Rattle.commands.proofs.Decimals.{decimal-digits, first-then, more-then, after-then}
@@ -20,15 +20,11 @@ text-then : (n : ℕ) (s : List ℕ) → numberText n ++ s ≡ decimal n ++ spac
 text-then n s = append-assoc (decimal n) (space ∷ []) s
 
 answer-split : (number : ℕ) (answer : Answer) → answerLine number answer ≡ decimal number ++ space ∷ (decimal (numberOf answer) ++ space ∷ (wordsOf answer ++ newline ∷ []))
-unfolding answerLine
+unfolding lineText restOf
 answer-split number answer =
-    let first = numberText number in
     let second = numberText (numberOf answer) in
     let end = newline ∷ [] in
-    append-assoc (first ++ second) (wordsOf answer) end
-    ∙ append-assoc first second (wordsOf answer ++ end)
-    ∙ ap (λ (s : List ℕ). first ++ s) (text-then (numberOf answer) (wordsOf answer ++ end))
-    ∙ text-then number (decimal (numberOf answer) ++ space ∷ (wordsOf answer ++ end))
+    ap (λ (s : List ℕ). decimal number ++ space ∷ s) (append-assoc second (wordsOf answer) end ∙ text-then (numberOf answer) (wordsOf answer ++ end))
 
 pub answer-reads : AnswerReads
 answer-reads number answer =

@@ -6,6 +6,7 @@ pub mod Lines
 pub mod Words
 pub mod Written
 pub mod Placed
+pub mod Numbered
 pub mod Lent
 pub mod Turning
 pub mod Decimals

@@ -3,10 +3,10 @@
 use mathlib.Core.Path.{_≡_, refl, ap, _∙_, sym}
 use mathlib.Core.Bool.{Bool, true, false}
 use mathlib.Core.List.{List, [], _∷_, _++_, append-assoc}
-use Prim.Native.Nat.{ℕ, zero, suc, _+_, _*_, _/_, _%_, _^_, _≤_, _<_}
+use Prim.Native.Nat.{ℕ, zero, suc, _+_, _*_, _/_, _%_, _^_, _-_, _≤_, _<_}
 use native.Mathlib.Nat.{pow-succ'}
 use native.Mathlib.Omega.{arith}
-use lib.ListN.{length, take, drop, length-append, length-take, length-drop}
+use lib.ListN.{length, take, drop, length-append, length-take, length-drop, take-append-drop}
 use lib.Seq.{take-at, drop-append-add, drop-drop, length-take-le}
 use lib.Dec.{ltb}
 use borrow.Author.Tests.{ltb-true, le-ltb}
@@ -30,6 +30,35 @@ put-put s t at out h =
     let last : at + length s + length t ≡ at + length (s ++ t) = rw (length-append s t) (omega arith) in
     let seam : p ++ t ≡ take at out ++ (s ++ t) = append-assoc (take at out) s t in
     rw (front, back, last, seam)
+
+-- over a text that is no longer
+put-over : (s t : List ℕ) (at : ℕ) (out : List ℕ) → length s ≤ length t → at + length t ≤ length out → putIn t at (putIn s at out) ≡ putIn t at out
+put-over s t at out h k =
+    let p = take at out ++ s in
+    let q = drop (at + length s) out in
+    let more = length t - length s in
+    let l : length (take at out) ≡ at = length-take-le at out (omega arith) in
+    let n : length p + more ≡ at + length t = rw (length-append, l) (omega arith) in
+    let front : take at (p ++ q) ≡ take at out = ap (take at) (append-assoc (take at out) s q) ∙ take-at (take at out) (s ++ q) at l in
+    let m : at + length s + more ≡ at + length t = omega arith in
+    let back : drop (at + length t) (p ++ q) ≡ drop (at + length t) out = rw (← n) (drop-append-add p q more) ∙ drop-drop more (at + length s) out ∙ rw m in
+    rw (front, back)
+
+-- a text put in after the first bytes of another, and over the rest of that
+pub put-after : (first text : List ℕ) (k at : ℕ) (out : List ℕ) → k ≤ length first → length first ≤ k + length text → at + k + length text ≤ length out
+    → putIn text (at + k) (putIn first at out) ≡ putIn (take k first ++ text) at out
+put-after first text k at out h m r =
+    let s = take k first in
+    let t = drop k first in
+    let n : length s ≡ k = length-take-le k first h in
+    let d : length t ≡ length first - k = length-drop k first in
+    let parts : putIn first at out ≡ putIn t (at + length s) (putIn s at out) =
+    ap (λ (u : List ℕ). putIn u at out) (sym (take-append-drop k first)) ∙ sym (put-put s t at out (omega arith)) in
+    let same : length (putIn s at out) ≡ length out = length-put s at out (omega arith) in
+    ap (λ (j : ℕ). putIn text (at + j) (putIn first at out)) (sym n)
+    ∙ ap (putIn text (at + length s)) parts
+    ∙ put-over t text (at + length s) (putIn s at out) (omega arith) (omega arith)
+    ∙ put-put s text at out (omega arith)
 
 -- a number's digits are no more than its places
 digits-few : (f n k : ℕ) (s : List ℕ) → n < 10 ^ suc k → length (digitsBefore f n s) ≤ suc k + length s

@@ -1,4 +1,4 @@
--- What a line of script promises, beside what each call's contract says of it. The proofs are in proofs/Handed, ReadBack, ShortSteps, OneLine, Answers and Begun, under these names: FirstBytesDecide is proved by first-bytes-decide.
+-- What a line of script promises, beside what each call's contract says of it. The proofs are in proofs/Handed, ReadBack, ShortSteps, OneLine, Answers, Numbered and Begun, under these names: FirstBytesDecide is proved by first-bytes-decide.
 use Prim.Native.Nat.{ℕ, _+_, _≤_, _<_}
 use mathlib.Core.Path.{_≡_}
 use mathlib.Core.Bool.{Bool, true, false}
@@ -15,7 +15,7 @@ use Rattle.commands.specs.Bytes.{firstField, moreFields, afterField}
 use Rattle.commands.specs.Decimal.{decimal}
 use Rattle.commands.specs.Grammar.{stepWord, commandOf, shortStep, lineOf}
 use Rattle.commands.specs.Effect.{stands, After, after, running, refusedRan, newOf, runLine}
-use Rattle.commands.specs.Texts.{wordsOf, newline, answerLine, lineRoom}
+use Rattle.commands.specs.Texts.{wordsOf, newline, lineRoom, answerLine, lineNumber, countedOn, digitsOf}
 use Rattle.commands.specs.declared.decimal.Number.the-variants.{Is}
 use Rattle.commands.specs.declared.grammar.Command.{Command}
 use Rattle.commands.specs.declared.grammar.Command.the-variants.{NotUnderstood, New, NewWith, Give, Step, Poke, Show}
@@ -86,6 +86,13 @@ AllSmall (n ∷ s) = Small n × AllSmall s
 abbrev pub AnswerFits : Type 0
 AnswerFits =
     (number : ℕ) (answer : Answer) → number < 18446744073709551616 → Small (numberOf answer) → AllSmall (valuesOf answer) → length (answerLine number answer) ≤ lineRoom
+
+-- a line's number is written in its own digits, which are kept from a line to the next
+abbrev pub DigitsAre : Type 0
+DigitsAre = (number : ℕ) → digitsOf number (lineNumber number) ≡ decimal number
+
+abbrev pub CountsOn : Type 0
+CountsOn = (number : ℕ) → countedOn (lineNumber number) (number + 1) ≡ lineNumber (number + 1)
 
 -- a machine, its memory and its table are as they were, and nothing was made
 pub record Kept (session : Session) (memory owners holders : List ℕ) (a : After) : Type 0 where

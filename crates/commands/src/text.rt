@@ -8,7 +8,18 @@ ghost use mathlib.Core.List.{_++_};
 ghost use lib.ListN.{length};
 ghost use Rattle.commands.specs.Bytes.{putIn};
 ghost use Rattle.commands.specs.Decimal.{decimal};
-ghost use Rattle.commands.specs.Texts.{numberText, wordsOf, answerPut, answerEnd};
+ghost use Rattle.commands.specs.Texts.{
+  numberText,
+  wordsOf,
+  restOf,
+  linePut,
+  lineEnd,
+  twoDigits,
+  lineNumber,
+  countedOn,
+  digitsOf,
+  PutBefore,
+};
 
 // A word, and the value after it.
 fn put_valued(word: &[u8], value: u32, out: &mut [u8], at: usize) -> usize
@@ -74,11 +85,93 @@ fn put_answer(number: u32, out: &mut [u8], at: usize) -> usize
     put_number(number as u64, out, at)
 }
 
+// The last two digits of a line's number, and the digits before them, which are written anew once in
+// a hundred lines. No places: they are not written (a number below 100, or of more than ten digits).
+pub struct LineNumber {
+    pub last: u8,
+    pub digits: [u8; 8],
+    pub places: usize,
+}
+
+pub fn line_number(number: u64) -> LineNumber
+    ensures { λ r. ⌜ r ≡ lineNumber number ⌝ }
+{
+    let before = number / 100;
+    let last = (number % 100) as u8;
+    let mut digits = [0u8; 8];
+    let mut places = 0;
+    if (0 < before) & (before < 100000000) {
+        places = put_decimal(before, &mut digits, 0);
+    }
+    LineNumber {
+        last,
+        digits,
+        places,
+    }
+}
+
+// The number after that of a line.
+pub fn counted_on(line: LineNumber, number: u64) -> LineNumber
+    ensures { λ r. ⌜ r ≡ countedOn line number ⌝ }
+{
+    if line.last < 99 {
+        let digits = line.digits;
+        return LineNumber {
+            last: line.last + 1,
+            digits,
+            places: line.places,
+        };
+    }
+    line_number(number)
+}
+
+fn two_digits(n: u8) -> [u8; 2]
+    ensures { λ r. ⌜ r ≡ twoDigits n ⌝ }
+{
+    [48 + n / 10, 48 + n % 10]
+}
+
+// The digits of a line's number. All eight bytes go in, since a length that is known costs less than
+// one that is not: what follows covers those that are no digits.
+fn put_line_number(number: u64, line: LineNumber, out: &mut [u8], at: usize) -> usize
+    requires { ⌜ at + 20 ≤ length (now out) ⌝ }
+    ensures { λ _. ⌜ PutBefore (digitsOf number line) at (now (out .entry)) (now (out .exit)) ⌝ }
+    ensures { λ r. ⌜ r ≡ at + length (digitsOf number line) ⌝ }
+    ensures { λ r. ⌜ r ≤ at + 20 ⌝ }
+{
+    let places = line.places;
+    if (0 < places) & (places <= 8) {
+        let digits = line.digits;
+        put(&digits, out, at);
+        return put(&two_digits(line.last), out, at + places);
+    }
+    put_decimal(number, out, at)
+}
+
+// What follows a line's number.
+fn put_rest(answer: Answer, out: &mut [u8], at: usize) -> usize
+    requires { ⌜ at + 28 ≤ length (now out) ⌝ }
+    ensures { λ _. ⌜ now (out .exit) ≡ putIn (restOf answer) at (now (out .entry)) ⌝ }
+    ensures { λ r. ⌜ r ≡ at + length (restOf answer) ⌝ }
+    ensures { λ r. ⌜ r ≤ at + 28 ⌝ }
+{
+    let first = put(b" ", out, at);
+    let second = put_answer(answer.number(), out, first);
+    let third = put_words(answer, out, second);
+    put(b"\n", out, third)
+}
+
 // Writes an answer's line in at a place of the lent bytes, where there is room for the longest,
 // and answers where it ends.
-pub fn answer_line(number: u64, answer: Answer, out: &mut [u8], at: usize) -> usize
-    ensures text { λ r. ⌜ now (out .exit) ≡ answerPut number answer (now (out .entry)) at ⌝ }
-    ensures end { λ r. ⌜ r ≡ answerEnd number answer (length (now (out .entry))) at ⌝ }
+pub fn answer_line(
+    number: u64,
+    line: LineNumber,
+    answer: Answer,
+    out: &mut [u8],
+    at: usize,
+) -> usize
+    ensures text { λ _. ⌜ now (out .exit) ≡ linePut (digitsOf number line) answer (now (out .entry)) at ⌝ }
+    ensures end { λ r. ⌜ r ≡ lineEnd (digitsOf number line) answer (length (now (out .entry))) at ⌝ }
     ensures fits { λ r. ⌜ r ≤ at + 48 ⌝ }
 {
     if out.len() < 48 {
@@ -87,8 +180,6 @@ pub fn answer_line(number: u64, answer: Answer, out: &mut [u8], at: usize) -> us
     if out.len() - 48 < at {
         return at;
     }
-    let first = put_number(number, out, at);
-    let second = put_answer(answer.number(), out, first);
-    let third = put_words(answer, out, second);
-    put(b"\n", out, third)
+    let to = put_line_number(number, line, out, at);
+    put_rest(answer, out, to)
 }
