@@ -18,9 +18,9 @@ use Rattle.commands.specs.declared.effect.Ran.{Ran}
 use Rattle.script.specs.declared.answering.Event.{Event}
 use Rattle.script.specs.declared.answering.Event.the-variants as event
 use Rattle.script.specs.Output.{Work, work, afterLine, textOf, textsOf}
-use Rattle.script.specs.Lines.{firstLine, between, unfinished}
+use Rattle.script.specs.Lines.{firstLine, handed, between, unfinished}
 use Rattle.script.specs.Answering.{answerRoom, canAnswer, lastNumber, seenOf, isEvent, linesIn, stopped, answerLines}
-use Rattle.script.proofs.Cutting.{next-line, line-handed, next-left, line-ends}
+use Rattle.script.proofs.Cutting.{next-line, next-left, line-ends}
 
 and-left : (a b : Bool) → a && b ≡ true → a ≡ true
 and-left true b e = refl
@@ -70,7 +70,7 @@ put-taken out text at h =
     take-at (take at out ++ text) (drop (at + length text) out) (at + length text) (length-append (take at out) text ∙ (rw length-take (omega arith)))
 
 -- a line is read, and its command is run
-pub as-line : (session : Session) (memory owners holders line : List ℕ) (did : After) (command : Command) → did ≡ runCommand session memory owners holders command → command ≡ commandOf line → did ≡ runLine session memory owners holders line
+as-line : (session : Session) (memory owners holders line : List ℕ) (did : After) (command : Command) → did ≡ runCommand session memory owners holders command → command ≡ commandOf line → did ≡ runLine session memory owners holders line
 unfolding runLine
 as-line session memory owners holders line did command d e = d ∙ ap (runCommand session memory owners holders) e
 
@@ -126,20 +126,25 @@ stands-first watch start input from end first at low = record { outcome = refl; 
 module _ (watch : Bool) (start : Work) (input : List ℕ) (from end : ℕ) (first : List ℕ) (at : ℕ)
     (session : Session) (memory owners holders : List ℕ) (answered next : ℕ) (out : List ℕ) (to : ℕ)
     (stands : Stands watch start input from end first at (work session memory owners holders answered) next out to)
-    (stop cut : ℕ) (high : end ≤ length input) (found : stop ≡ next + length (firstLine (between next end input))) (more : stop ≡ end → ⊥) (cuts : cut ≡ next + min (stop - next) 81)
+    (stop : ℕ) (high : end ≤ length input) (found : stop ≡ next + length (firstLine (between next end input))) (more : stop ≡ end → ⊥)
+    (command : Command) (reads : command ≡ commandOf (handed (firstLine (between next end input))))
     (ran : Ran) (memory₁ owners₁ holders₁ out₁ : List ℕ) (to₁ : ℕ)
     (room : canAnswer (length out) to answered ≡ true)
-    (did : after ran memory₁ owners₁ holders₁ ≡ runLine session memory owners holders (take (cut - next) (drop next input)))
+    (runs : after ran memory₁ owners₁ holders₁ ≡ runCommand session memory owners holders command)
     (put : out₁ ≡ answerPut (answered + 1) (ran .answer) out to) (ends : to₁ ≡ answerEnd (answered + 1) (ran .answer) (length out) to) (fits : to₁ ≤ to + answerRoom) where
-  the-lines : linesIn (between next end input) ≡ take (cut - next) (drop next input) ∷ linesIn (between (stop + 1) end input)
-  the-lines =
-      next-line input next end stop (stands .within) high found more
-      ∙ ap (λ (l : List ℕ). l ∷ linesIn (between (stop + 1) end input)) (sym (line-handed input next end stop (stands .within) high found cut cuts))
+  abbrev line : List ℕ
+  line = handed (firstLine (between next end input))
+
+  did : after ran memory₁ owners₁ holders₁ ≡ runLine session memory owners holders line
+  did = as-line session memory owners holders line (after ran memory₁ owners₁ holders₁) command runs reads
+
+  the-lines : linesIn (between next end input) ≡ line ∷ linesIn (between (stop + 1) end input)
+  the-lines = next-line input next end stop (stands .within) high found more
 
   on-text : take to₁ out₁ ++ textsOf (work (ran .session) memory₁ owners₁ holders₁ (answered + 1)) (linesIn (between (stop + 1) end input))
       ≡ take at first ++ textsOf start (linesIn (between from end input))
   on-text =
-      texts-on watch session memory owners holders answered (take (cut - next) (drop next input)) (linesIn (between (stop + 1) end input)) out to ran memory₁ owners₁ holders₁ out₁ to₁ room did put ends fits
+      texts-on watch session memory owners holders answered line (linesIn (between (stop + 1) end input)) out to ran memory₁ owners₁ holders₁ out₁ to₁ room did put ends fits
       ∙ ap (λ (l : List (List ℕ)). take to out ++ textsOf (work session memory owners holders answered) l) (sym the-lines)
       ∙ stands .text
 
@@ -154,7 +159,7 @@ module _ (watch : Bool) (start : Work) (input : List ℕ) (from end : ℕ) (firs
   turn-on e =
       record {
         outcome =
-            sym (answers-on watch session memory owners holders answered (take (cut - next) (drop next input)) (linesIn (between (stop + 1) end input)) out to ran memory₁ owners₁ holders₁ out₁ to₁ room did put ends fits e)
+            sym (answers-on watch session memory owners holders answered line (linesIn (between (stop + 1) end input)) out to ran memory₁ owners₁ holders₁ out₁ to₁ room did put ends fits e)
             ∙ ap (λ (l : List (List ℕ)). answerLines watch (work session memory owners holders answered) l out to) (sym the-lines)
             ∙ stands .outcome;
         text = on-text;
@@ -176,7 +181,7 @@ module _ (watch : Bool) (start : Work) (input : List ℕ) (from end : ℕ) (firs
       record {
         outcome =
             ap (λ (v : Event). stopped (work (ran .session) memory₁ owners₁ holders₁ (answered + 1)) (linesIn (between (stop + 1) end input)) out₁ to₁ v) is
-            ∙ answers-stop watch session memory owners holders answered (take (cut - next) (drop next input)) (linesIn (between (stop + 1) end input)) out to ran memory₁ owners₁ holders₁ out₁ to₁ room did put ends fits there
+            ∙ answers-stop watch session memory owners holders answered line (linesIn (between (stop + 1) end input)) out to ran memory₁ owners₁ holders₁ out₁ to₁ room did put ends fits there
             ∙ ap (λ (l : List (List ℕ)). answerLines watch (work session memory owners holders answered) l out to) (sym the-lines)
             ∙ stands .outcome;
         text = on-text;

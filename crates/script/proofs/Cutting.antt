@@ -12,6 +12,10 @@ use lib.Seq.{drop-cons, drop-drop, drop-nil, drop-set-lt, getD-drop, take-all, t
 use lib.Dec.{eqb, leb}
 use borrow.Author.Tests.{eq-eqb, ne-eqb, leb-true, leb-false}
 use Rattle.rules.specs.Basics.{if_then_else_}
+use Rattle.commands.specs.Grammar.{stepWord, commandOf}
+use Rattle.commands.specs.Promises.{ShortStep}
+use Rattle.commands.specs.declared.grammar.Command.{Command}
+use Rattle.commands.specs.declared.grammar.Command.the-variants.{Step}
 use Rattle.script.specs.Lines.{firstLine, wholeFrom, wholeLines, leftFrom, unfinished, handed, handedOn, between}
 use Rattle.script.specs.Answering.{linesIn}
 
@@ -213,3 +217,16 @@ kept-handed bytes now from end held i low high h k l e =
     let m : held ≡ i = omega arith in
     let n : i ≡ min 81 (end - from) = omega arith in
     rw m (e ∙ ap (λ (c : ℕ). take c (drop from bytes)) n ∙ sym (take-min 81 (end - from) (drop from bytes)))
+
+-- a line that is a step of one digit
+module _ (s : List ℕ) (core : ℕ) (is : ShortStep s core) where
+  pub short-first : firstLine s ≡ stepWord ++ (48 + core) ∷ []
+  short-first =
+      ap firstLine (is .line)
+      ∙ ap (λ (l : List ℕ). 115 ∷ 116 ∷ 101 ∷ 112 ∷ 32 ∷ l) (first-other (48 + core) (10 ∷ drop 7 s) (λ e. omega (arith, e)))
+
+  pub short-ends : (from stop : ℕ) → stop ≡ from + 6 → stop ≡ from + length (firstLine s)
+  short-ends from stop e = rw short-first e
+
+  pub short-command : Step core ≡ commandOf (handed (firstLine s))
+  short-command = rw short-first (sym (is .command))

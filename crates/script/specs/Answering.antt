@@ -5,12 +5,12 @@ use Prim.Native.Nat.{ℕ, _+_}
 use lib.ListN.{length}
 use lib.Dec.{leb, ltb}
 use Rattle.rules.specs.Basics.{if_then_else_}
+use Rattle.rules.specs.declared.state.Machine.{Machine}
 use Rattle.rules.specs.declared.answers.Answer.{Answer}
 use Rattle.rules.specs.declared.answers.Answer.the-variants.{Refused, Ready, Taken, Moved, Waits, Load, Ll, Store, Sc, Poked, Word}
 use Rattle.rules.specs.declared.answers.Handed.{Handed}
 use Rattle.rules.specs.declared.answers.Handed.the-variants as made
 use Rattle.commands.specs.Texts.{answerPut, answerEnd}
-use Rattle.commands.specs.declared.effect.Session.{Session}
 use Rattle.script.specs.declared.answering.Place.{Place}
 use Rattle.script.specs.declared.answering.Event.{Event}
 use Rattle.script.specs.declared.answering.Event.the-variants as event
@@ -75,8 +75,9 @@ pub record Stopped : Type 0 where
 abbrev pub stopped : Work → List (List ℕ) → List ℕ → ℕ → Event → Stopped
 stopped w lines out at e = record { work = w; lines = lines; out = out; at = at; event = e }
 
-abbrev pub placeOf : Session → ℕ → ℕ → ℕ → Event → Place
-placeOf session answered from at e = record { session = session; answered = answered; from = from; at = at; event = e }
+abbrev pub placeOf : ℕ → Machine → ℕ → ℕ → ℕ → Event → Place
+placeOf begun m answered from at e =
+    record { session = record { begun = begun; machine = m }; answered = answered; from = from; at = at; event = e }
 
 -- of a line: the output with its answer, where the answer ends, and the event
 abbrev pub answerIn : Work → List ℕ → List ℕ → ℕ → List ℕ

@@ -12,13 +12,14 @@ ghost use mathlib.Core.Path.{_≡_};
 ghost use mathlib.Core.Bool.{true, false, _&&_, _||_};
 ghost use mathlib.Core.List.{[]};
 ghost use lib.Dec.{ltb};
+ghost use Rattle.commands.specs.Turns.{Sound};
 ghost use Rattle.script.specs.Lines.{between};
 ghost use Rattle.script.specs.Answering.{lastNumber, isEvent, linesIn};
 ghost use Prim.Native.Nat.{_+_, _≤_};
 ghost use lib.ListN.{length};
 
 // What is carried from piece to piece: `held` bytes of an unfinished line stand at the front of the
-// input's buffer.
+// input's buffer. The session is sound from the first line on, so no piece looks at its machine.
 pub struct Serving {
     pub session: Session,
     pub answered: u64,
@@ -30,6 +31,7 @@ pub struct Serving {
 impl Serving {
     fn ended(self) -> Serving
         ensures { λ r. ⌜ r .held ≡ self .held ⌝ }
+        ensures { λ r. ⌜ r .session ≡ self .session ⌝ }
     {
         let session = self.session;
         let archives = self.archives;
@@ -70,6 +72,7 @@ fn memory_bytes() -> [u8; 16384]
 // Where a stop leaves the answering. It is busy if it stopped for something that was done for it.
 fn stopped_at(place: Place, archives: Archives, room: Room) -> Answering
     ensures places { λ r. ⌜ (r .from ≡ place .from) × (r .at ≡ room .at) ⌝ }
+    ensures session { λ r. ⌜ r .session ≡ place .session ⌝ }
     ensures going { λ r. ⌜ r .«goes_on» ≡ (room .good && ltb (place .answered) lastNumber) ⌝ }
     ensures busy { λ r. ⌜ r .busy ≡ (r .«goes_on» && (room .emptied || isEvent (place .event))) ⌝ }
 {
@@ -101,8 +104,10 @@ fn answer_some(
     out: &mut [u8],
 ) -> Answering
     requires { ⌜ (a .from ≤ end) × (end ≤ length (now input)) × (a .at ≤ length (now out)) ⌝ }
+    requires { ⌜ Sound (a .session) ⌝ }
     ensures within { λ r. ⌜ (r .from ≤ end) × (r .at ≤ length (now (out .entry))) ⌝ }
     ensures all { λ r. ⌜ (r .busy ≡ false → r .«goes_on» ≡ true → linesIn (between (r .from) end (now (input .entry))) ≡ []) ⌝ }
+    ensures sound { λ r. ⌜ Sound (r .session) ⌝ }
 {
     let session = a.session;
     let from = a.from;
@@ -139,7 +144,9 @@ fn answer_all(
     out: &mut [u8],
 ) -> Answering
     requires { ⌜ end ≤ length (now input) ⌝ }
+    requires { ⌜ Sound (s .session) ⌝ }
     ensures { λ r. ⌜ r .from ≤ end ⌝ }
+    ensures { λ r. ⌜ Sound (r .session) ⌝ }
 {
     let session = s.session;
     let archives = s.archives;
@@ -175,7 +182,9 @@ fn serve_piece(
     out: &mut [u8],
 ) -> Serving
     requires { ⌜ end ≤ length (now input) ⌝ }
+    requires { ⌜ Sound (s .session) ⌝ }
     ensures { λ r. ⌜ r .held ≤ 81 ⌝ }
+    ensures { λ r. ⌜ Sound (r .session) ⌝ }
 {
     let a = answer_all(s, watch, path, memory, owners, holders, input, end, out);
     let from = a.from;
@@ -203,7 +212,9 @@ fn serve_last(
     out: &mut [u8],
 ) -> Serving
     requires { ⌜ (s .held ≤ 81) × (82 ≤ length (now input)) ⌝ }
+    requires { ⌜ Sound (s .session) ⌝ }
     ensures { λ r. ⌜ r .held ≤ 81 ⌝ }
+    ensures { λ r. ⌜ Sound (r .session) ⌝ }
 {
     let held = s.held;
     if held == 0 {
@@ -255,7 +266,9 @@ fn serve_some(
     out: &mut [u8],
 ) -> Serving
     requires { ⌜ (s .held ≤ 81) × (82 ≤ length (now input)) ⌝ }
+    requires { ⌜ Sound (s .session) ⌝ }
     ensures { λ r. ⌜ r .held ≤ 81 ⌝ }
+    ensures { λ r. ⌜ Sound (r .session) ⌝ }
 {
     let held = s.held;
     let piece = read_piece(input, held);

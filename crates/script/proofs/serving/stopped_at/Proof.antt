@@ -11,7 +11,7 @@ is-event-requires c κs = search needs
 
 -- src/serving.rt:71:1
 returns : tie.Need-returns
-returns c = ((refl, refl), (refl, rw (c .before .is-event .ensures)))
+returns c = ((refl, refl), (refl, (refl, rw (c .before .is-event .ensures))))
 
 pub stopped-at-spec : {M : Type 1} → statement M
 stopped-at-spec = tie.close (tie.spec is-event-requires returns)
