@@ -7,12 +7,13 @@ use Prim.Native.Nat.{ℕ, zero, suc, _+_, _*_, _/_, _%_, _≤_, _<_}
 use native.Mathlib.Omega.{arith}
 use lib.ListN.{length, getD}
 use lib.Dec.{eqb, ltb, leb}
-use borrow.Author.Tests.{le-leb, leb-true, ltb-true, ltb-false, ne-eqb}
+use borrow.Author.Tests.{le-leb, ltb-true, ltb-false, ne-eqb}
 use Rattle.rules.specs.Basics.{if_then_else_}
 use Rattle.commands.specs.Bytes.{space, firstField, moreFields, afterField}
 use Rattle.commands.specs.Decimal.{largest, isDigit, digitOf, allDigits, valueFrom, numberFrom, numberIn, digitsBefore, decimal}
 use Rattle.commands.specs.declared.decimal.Number.the-variants.{Wrong, Is}
 use Rattle.commands.proofs.Bools.{and₂}
+use Rattle.commands.proofs.Digits.{digit-no-space}
 use Rattle.commands.proofs.Written.{one-some}
 
 -- the byte of a digit
@@ -84,9 +85,6 @@ decimal-reads (suc n) l =
     number-is (length s) (allDigits s) (eqb (getD s 0 0) 48) (valueFrom 0 s) (suc n) some (decimal-digits (suc n)) first (decimal-value (suc n)) l
 
 -- a field of digits ends at a space or at the end
-pub digit-no-space : (b : ℕ) → isDigit b ≡ true → eqb b space ≡ false
-digit-no-space b h = let l = leb-true 48 b (and₂ (leb 48 b) (leb b 57) h .0) in ne-eqb b space (λ q. omega (arith, q, l))
-
 pub first-digits : (s : List ℕ) → allDigits s ≡ true → firstField s ≡ s
 unfolding firstField allDigits
 first-digits [] h = refl

@@ -1,17 +1,16 @@
 -- Fields and words at a place of a line, byte by byte.
 -- Assumes nothing.
-use mathlib.Core.Path.{_≡_, refl, ap, _∙_, sym}
+use mathlib.Core.Path.{_≡_, refl, sym}
 use mathlib.Core.Bool.{Bool, true, false, _&&_, true≢false}
 use mathlib.Core.List.{List, [], _∷_}
-use Prim.Native.Nat.{ℕ, zero, suc, _+_, _-_, _≤_, _<_}
+use Prim.Native.Nat.{ℕ, suc, _+_, _≤_, _<_}
 use native.Mathlib.Numerals.{add-one}
 use native.Mathlib.Omega.{arith}
-use lib.ListN.{length, getD, drop, length-drop, drop-of-length-le}
+use lib.ListN.{length, getD, drop, drop-of-length-le}
 use lib.Seq.{drop-cons}
 use lib.Dec.{eqb}
-use borrow.Author.Tests.{eq-eqb, ne-eqb}
 use Rattle.rules.specs.Basics.{if_then_else_}
-use Rattle.commands.specs.Bytes.{begins, space, firstField, moreFields, afterField}
+use Rattle.commands.specs.Bytes.{begins, space, firstField, moreFields, fieldEnds, afterField}
 use Rattle.commands.proofs.Bools.{and-assoc}
 
 -- a word longer than what is there
@@ -35,29 +34,53 @@ unfolding begins
 begins-all word s i e = let l : length word ≤ i = omega arith in rw (drop-of-length-le word l)
 
 -- what a field is, at a byte that is no space and at its end
-pub first-on : (line : List ℕ) (at : ℕ) → at < length line → (getD line at 0 ≡ space → ⊥) → firstField (drop at line) ≡ getD line at 0 ∷ firstField (drop (suc at) line)
+pub first-on : (line : List ℕ) (at : ℕ) → at < length line → eqb (getD line at 0) space ≡ false → firstField (drop at line) ≡ getD line at 0 ∷ firstField (drop (suc at) line)
 unfolding firstField
-first-on line at k n = rw (drop-cons line at 0 k, ne-eqb _ _ n)
+first-on line at k n = rw (drop-cons line at 0 k, n)
 
-pub more-on : (line : List ℕ) (at : ℕ) → at < length line → (getD line at 0 ≡ space → ⊥) → moreFields (drop at line) ≡ moreFields (drop (suc at) line)
-unfolding moreFields
-more-on line at k n = rw (drop-cons line at 0 k, ne-eqb _ _ n)
+pub place-on : (line : List ℕ) (at : ℕ) → at < length line → eqb (getD line at 0) space ≡ false → at + length (firstField (drop at line)) ≡ at + 1 + length (firstField (drop (at + 1) line))
+place-on line at k n = rw (add-one, first-on line at k n) (omega arith)
 
-pub first-space : (line : List ℕ) (at : ℕ) → at < length line → getD line at 0 ≡ space → firstField (drop at line) ≡ []
+pub first-space : (line : List ℕ) (at : ℕ) → at < length line → eqb (getD line at 0) space ≡ true → firstField (drop at line) ≡ []
 unfolding firstField
-first-space line at k e = rw (drop-cons line at 0 k, eq-eqb _ _ e)
-
-pub more-space : (line : List ℕ) (at : ℕ) → at < length line → getD line at 0 ≡ space → moreFields (drop at line) ≡ true
-unfolding moreFields
-more-space line at k e = rw (drop-cons line at 0 k, eq-eqb _ _ e)
+first-space line at k e = rw (drop-cons line at 0 k, e)
 
 pub first-end : (line : List ℕ) (at : ℕ) → length line ≤ at → firstField (drop at line) ≡ []
 unfolding firstField
 first-end line at k = rw (drop-of-length-le line k)
 
-pub more-end : (line : List ℕ) (at : ℕ) → length line ≤ at → moreFields (drop at line) ≡ false
-unfolding moreFields
-more-end line at k = rw (drop-of-length-le line k)
+-- whether it ends at a place
+pub ends-in : (line : List ℕ) (at : ℕ) → at < length line → fieldEnds (drop at line) ≡ eqb (getD line at 0) space
+unfolding fieldEnds
+ends-in line at k = rw (drop-cons line at 0 k)
+
+pub ends-out : (line : List ℕ) (at : ℕ) → length line ≤ at → fieldEnds (drop at line) ≡ true
+unfolding fieldEnds
+ends-out line at k = rw (drop-of-length-le line k)
+
+pub ends-first : (s : List ℕ) → fieldEnds s ≡ true → firstField s ≡ []
+unfolding fieldEnds firstField
+ends-first [] e = refl
+ends-first (b ∷ s) e = rw e
+
+-- a further field follows exactly if it ends before the end
+pub more-before : (s : List ℕ) → length (firstField s) < length s → moreFields s ≡ true
+unfolding firstField moreFields
+more-before [] h = absurd (omega arith)
+more-before (b ∷ s) h = go (eqb b space) h (λ k. more-before s k)
+  where
+    go : (t : Bool) → length (if t then [] else b ∷ firstField s) < length (b ∷ s) → (length (firstField s) < length s → moreFields s ≡ true) → (if t then true else moreFields s) ≡ true
+    go true h k = refl
+    go false h k = k (omega arith)
+
+pub none-after : (s : List ℕ) → length s ≤ length (firstField s) → moreFields s ≡ false
+unfolding firstField moreFields
+none-after [] h = refl
+none-after (b ∷ s) h = go (eqb b space) h (λ k. none-after s k)
+  where
+    go : (t : Bool) → length (b ∷ s) ≤ length (if t then [] else b ∷ firstField s) → (length s ≤ length (firstField s) → moreFields s ≡ false) → (if t then true else moreFields s) ≡ false
+    go true h k = absurd (omega arith)
+    go false h k = k (omega arith)
 
 -- what stands after a field's space
 pub after-field : (s : List ℕ) → moreFields s ≡ true → drop (suc (length (firstField s))) s ≡ afterField s

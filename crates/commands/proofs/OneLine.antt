@@ -8,7 +8,7 @@ use Prim.Native.Nat.{ℕ, zero, suc, _+_, _*_, _/_, _%_, _≤_}
 use native.Mathlib.Omega.{arith}
 use lib.ListN.{length, drop}
 use lib.Dec.{eqb, ltb, leb}
-use borrow.Author.Tests.{eqb-true, eqb-false, leb-true, lt-ltb, not-true}
+use borrow.Author.Tests.{eqb-true, eqb-false, lt-ltb, not-true}
 use Rattle.rules.specs.Basics.{if_then_else_}
 use Rattle.rules.specs.declared.entry.GuestAddress.{GuestAddress}
 use Rattle.rules.specs.declared.answers.Operation.the-variants.{Load, Ll, Store, Sc}
@@ -23,6 +23,7 @@ use Rattle.commands.specs.declared.grammar.Numbers.the-variants.{Wrong, 
 use Rattle.commands.specs.declared.grammar.Command.{Command}
 use Rattle.commands.specs.declared.grammar.Command.the-variants.{NotUnderstood, Give, Poke, Show}
 use Rattle.commands.proofs.Bools.{and₂}
+use Rattle.commands.proofs.Digits.{digit-bounds}
 use Rattle.commands.proofs.Placed.{one-digit}
 use Rattle.commands.proofs.Written.{decimal-on}
 
@@ -57,11 +58,7 @@ field-then (b ∷ s) m = go (eqb b space) refl m (λ h. field-then s h)
 
 -- one more digit
 digit-byte : (b : ℕ) → isDigit b ≡ true → (digitOf b ≤ 9) × (48 + digitOf b ≡ b)
-digit-byte b h =
-    let k = and₂ (leb 48 b) (leb b 57) h in
-    let l = leb-true 48 b (k .0) in
-    let m = leb-true b 57 (k .1) in
-    rw h (omega (arith, m), omega (arith, l))
+digit-byte b h = let k = digit-bounds b h in rw h (omega arith, omega arith)
 
 digit-more : (v b : ℕ) → 1 ≤ v → isDigit b ≡ true → decimal (10 * v + digitOf b) ≡ decimal v ++ b ∷ []
 digit-more v b p h =

@@ -30,6 +30,11 @@ unfoldable pub afterField : List ℕ → List ℕ
 afterField [] = []
 afterField (b ∷ s) = if eqb b space then s else afterField s
 
+-- a field ends here: a space stands here, or nothing
+unfoldable pub fieldEnds : List ℕ → Bool
+fieldEnds [] = true
+fieldEnds (b ∷ s) = eqb b space
+
 -- the bytes with a text put in at a place
 abbrev pub putIn : List ℕ → ℕ → List ℕ → List ℕ
 putIn text at out = take at out ++ text ++ drop (at + length text) out

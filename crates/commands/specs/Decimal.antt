@@ -29,10 +29,6 @@ unfoldable pub valueFrom : ℕ → List ℕ → ℕ
 valueFrom v [] = v
 valueFrom v (b ∷ s) = valueFrom (10 * v + digitOf b) s
 
--- one more digit, where what is too large for a number stays so
-abbrev pub readOn : ℕ → ℕ → ℕ
-readOn v b = if leb v largest then 10 * v + digitOf b else v
-
 -- a needless zero: the first of several digits is 0
 abbrev pub numberFrom : ℕ → Bool → Bool → ℕ → Number
 numberFrom count digits zeroFirst value =

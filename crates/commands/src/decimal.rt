@@ -1,11 +1,11 @@
 // Decimal numbers without needless zeros, read and written.
 ghost use mathlib.Core.Path.{_≡_};
-ghost use mathlib.Core.Bool.{_&&_};
+ghost use mathlib.Core.Bool.{true};
 ghost use Prim.Native.Nat.{_+_, _<_, _≤_};
 ghost use lib.ListN.{length, drop, getD};
 ghost use lib.Dec.{eqb};
-ghost use Rattle.commands.specs.Bytes.{putIn};
-ghost use Rattle.commands.specs.Decimal.{isDigit, digitOf, readOn, numberFrom, fieldOf, decimal};
+ghost use Rattle.commands.specs.Bytes.{firstField, fieldEnds, putIn};
+ghost use Rattle.commands.specs.Decimal.{isDigit, digitOf, numberFrom, fieldOf, decimal};
 
 // What a field of a line says.
 pub enum Number {
@@ -27,23 +27,11 @@ pub(crate) fn is_digit(b: u8) -> bool
 }
 
 fn digit_of(b: u8) -> u64
+    requires { ⌜ isDigit b ≡ true ⌝ }
     ensures { λ r. ⌜ r ≡ digitOf b ⌝ }
     ensures { λ r. ⌜ r ≤ 9 ⌝ }
 {
-    if is_digit(b) { (b - 48) as u64 } else { 0 }
-}
-
-// One more digit. What is too large for a number stays so.
-fn read_on(value: u64, b: u8) -> u64
-    requires { ⌜ value ≤ 42949672959 ⌝ }
-    ensures { λ r. ⌜ r ≡ readOn value b ⌝ }
-    ensures { λ r. ⌜ r ≤ 42949672959 ⌝ }
-{
-    if value <= 4294967295 {
-        10 * value + digit_of(b)
-    } else {
-        value
-    }
+    (b - 48) as u64
 }
 
 fn number_from(count: usize, digits: bool, zero: bool, value: u64) -> Number
@@ -66,32 +54,56 @@ fn zero_at(line: &[u8], from: usize) -> bool
     false
 }
 
-// The field that begins at a place.
+// A field ends at a place.
+fn ends_at(line: &[u8], at: usize) -> bool
+    ensures { λ r. ⌜ r ≡ fieldEnds (drop at (now (line .entry))) ⌝ }
+{
+    if at < line.len() {
+        return line[at] == 32;
+    }
+    true
+}
+
+// Where the field ends that goes on at a place.
+fn field_end(line: &[u8], from: usize) -> usize
+    requires { ⌜ from ≤ length (now line) ⌝ }
+    ensures { λ r. ⌜ r ≡ from + length (firstField (drop from (now (line .entry)))) ⌝ }
+    ensures { λ r. ⌜ r ≤ length (now (line .entry)) ⌝ }
+{
+    let mut at = from;
+    while at < line.len() && line[at] != 32 {
+        at += 1;
+    }
+    at
+}
+
+// The field that begins at a place. The reading stops at what makes it no number: a byte that is no
+// digit, or a value that is too large.
 pub(crate) fn field_at(line: &[u8], from: usize) -> Field
     requires { ⌜ from ≤ length (now line) ⌝ }
     ensures { λ r. ⌜ r ≡ fieldOf (now (line .entry)) from ⌝ }
     ensures { λ r. ⌜ r .next ≤ length (now (line .entry)) ⌝ }
 {
     let mut value = 0u64;
-    let mut digits = true;
     let mut at = from;
-    while at < line.len() && line[at] != 32 {
-        value = read_on(value, line[at]);
-        digits = digits & is_digit(line[at]);
+    while at < line.len() && is_digit(line[at]) && value <= 4294967295 {
+        value = 10 * value + digit_of(line[at]);
         at += 1;
     }
-    let number = number_from(at - from, digits, zero_at(line, from), value);
-    if at < line.len() {
+    let digits = ends_at(line, at);
+    let end = field_end(line, at);
+    let number = number_from(end - from, digits, zero_at(line, from), value);
+    if end < line.len() {
         return Field {
             number,
             more: true,
-            next: at + 1,
+            next: end + 1,
         };
     }
     Field {
         number,
         more: false,
-        next: at,
+        next: end,
     }
 }
 

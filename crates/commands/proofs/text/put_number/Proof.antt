@@ -20,7 +20,13 @@ same-length : tie.Need-same-length
 same-length c = search needs
 
 returns : tie.Need-returns
-returns c = let p : Put (decimal (c .before .before .before .before .before .before .before .before .before .before .args .number)) (c .before .before .before .before .before .before .before .before .before .before .args .at) (c .before .before .before .before .before .before .before .before .before .before .args .out .now) (c .before .before .before .before .before .before .before .put-decimal .last .1 .0) (c .before .before .before .before .before .before .before .put-decimal .result) = record { bytes = c .before .before .before .before .before .before .before .put-decimal .ensures .0; ends = c .before .before .before .before .before .before .before .put-decimal .ensures .1 } in let q : Put (space ∷ []) (c .before .before .before .before .before .before .before .put-decimal .result) (c .before .before .before .before .before .before .before .put-decimal .last .1 .0) (c .before .before .put .last .1 .0) (c .before .before .put .result) = record { bytes = c .before .before .put .ensures .0; ends = c .before .before .put .ensures .1 } in let r = put-then _ _ _ _ _ _ _ _ p q (c .before .before .before .before .before .before .before .before .before .before .pre) in (r .bytes, r .ends)
+returns c = let a = c .before .before .before .before .before .before .before .before .before .before .args in
+    let digits = c .before .before .before .before .before .before .before .put-decimal in
+    let last = c .before .before .put in
+    let p : Put (decimal (a .number)) (a .at) (a .out .now) (digits .last .1 .0) (digits .result) = record { bytes = digits .ensures .0; ends = digits .ensures .1 } in
+    let q : Put (space ∷ []) (digits .result) (digits .last .1 .0) (last .last .1 .0) (last .result) = record { bytes = last .ensures .0; ends = last .ensures .1 } in
+    let r = put-then _ _ _ _ _ _ _ _ p q (c .before .before .before .before .before .before .before .before .before .before .pre) in
+    (r .bytes, r .ends)
 
 pub put-number-spec : {M : Type 1} → statement M
 put-number-spec =
