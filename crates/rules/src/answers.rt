@@ -5,7 +5,7 @@ ghost use Rattle.rules.specs.Answers.{number_of};
 
 use crate::entry::GuestAddress;
 
-#[derive(Drop)]
+#[derive(Clone, Copy)]
 pub enum Operation {
     Load(GuestAddress),
     Ll(GuestAddress),
@@ -14,7 +14,7 @@ pub enum Operation {
 }
 
 // The answers of every call, named as the script program writes them.
-#[derive(Drop)]
+#[derive(Clone, Copy)]
 pub enum Answer {
     Refused(u32),
     Ready,
@@ -31,7 +31,7 @@ pub enum Answer {
 
 // One access: which core made it (255: the bench), its kind, its address, and the value read,
 // written or not written.
-#[derive(Drop)]
+#[derive(Clone, Copy)]
 pub struct Record {
     pub core: u8,
     pub kind: u8,
@@ -40,7 +40,7 @@ pub struct Record {
 }
 
 // The record that a call hands out, if it makes one.
-#[derive(Drop)]
+#[derive(Clone, Copy)]
 pub enum Handed {
     Nothing,
     One(Record),

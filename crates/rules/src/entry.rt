@@ -4,11 +4,11 @@ ghost use Rattle.rules.specs.Entry.{entry_of};
 
 // A byte's address in guest memory.
 #[repr(C)]
-#[derive(Drop)]
+#[derive(Clone, Copy)]
 pub struct GuestAddress(pub u32);
 
 // The number of an entry of the table.
-#[derive(Drop)]
+#[derive(Clone, Copy)]
 pub struct EntryNumber(pub usize);
 
 impl GuestAddress {

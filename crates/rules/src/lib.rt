@@ -1,3 +1,4 @@
+#![tactic(auto)]
 // The rules of the memory engine: what is asked, answered and handed out, the state that the rules speak of,
 // and the micro-steps of one core.
 //

@@ -8,7 +8,7 @@ use crate::cores::Core;
 // The sizes are those of the lent buffers: memory's bytes, and the entries of each table. Laid out as
 // in C, so that a bench can keep one.
 #[repr(C)]
-#[derive(Drop)]
+#[derive(Clone, Copy)]
 pub struct Machine {
     pub cores: [Core; 8],
     pub count: usize,
@@ -16,7 +16,7 @@ pub struct Machine {
     pub entries: usize,
 }
 
-#[derive(Drop)]
+#[derive(Clone, Copy)]
 pub struct Called {
     pub answer: Answer,
     pub made: Handed,
