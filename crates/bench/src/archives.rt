@@ -6,7 +6,7 @@ ghost use Rattle.bench.specs.Packed.{packed_wrote};
 use crate::packed;
 use archive::{Writer, Written, Wrote, decode_record};
 
-#[derive(Drop)]
+#[derive(Clone, Copy)]
 pub struct WriterLeft {
     pub answer: u64,
     pub writer: Writer,

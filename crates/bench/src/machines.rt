@@ -6,7 +6,7 @@ ghost use Rattle.bench.specs.Packed.{packed, handed_bytes};
 use crate::packed;
 use machine::{Called, GuestAddress, Machine, Stepped};
 
-#[derive(Drop)]
+#[derive(Clone, Copy)]
 pub struct MachineLeft {
     pub answer: u64,
     pub machine: Machine,

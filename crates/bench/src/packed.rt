@@ -6,14 +6,14 @@ use archive::{Checked, Read, Sought, Whole, Wrote, encode_record};
 use machine::{Answer, GuestAddress, Handed, Operation};
 
 // What an operation's number asks for.
-#[derive(Drop)]
+#[derive(Clone, Copy)]
 pub enum Asked {
     Known(Operation),
     Unknown,
 }
 
 // .. as what is given to the machine, whether the number is known or not.
-#[derive(Drop)]
+#[derive(Clone, Copy)]
 pub struct Asking {
     pub known: bool,
     pub operation: Operation,

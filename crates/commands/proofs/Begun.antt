@@ -1,5 +1,6 @@
 -- What a `new` leaves, and the lines before the first that is accepted.
 -- Assumes nothing.
+use Rattle.std.proofs.Common.{if◌then◌else◌}
 use mathlib.Core.Path.{◌≡◌, refl, ap, ◌∙◌, sym, subst}
 use mathlib.Core.Bool.{Bool, true, false, ◌&&◌, true≢false}
 use mathlib.Core.List.{List}
@@ -9,7 +10,6 @@ use lib.ListN.{length, take, take-append-drop}
 use lib.Seq.{length-take-le}
 use lib.Dec.{eqb, leb}
 use borrow.Author.Tests.{eqb-false, leb-true}
-use Rattle.rules.specs.Basics.{if◌then◌else◌}
 use Rattle.rules.specs.Answers.{number_of}
 use Rattle.rules.specs.Calls.{Outcome, outcome, refused, all_idle, started, start_refusal, start_of}
 use Rattle.commands.specs.Grammar.{command_of}

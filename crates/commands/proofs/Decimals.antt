@@ -1,5 +1,6 @@
 -- A number that is written reads as that number.
 -- Assumes nothing.
+use Rattle.std.proofs.Common.{if◌then◌else◌}
 use mathlib.Core.Path.{◌≡◌, refl, ap, ◌∙◌}
 use mathlib.Core.Bool.{Bool, true, false, not, ◌&&◌}
 use mathlib.Core.List.{List, [], ◌∷◌, ◌++◌}
@@ -8,7 +9,6 @@ use native.Mathlib.Omega.{arith}
 use lib.ListN.{length, get_or}
 use lib.Dec.{eqb, ltb, leb}
 use borrow.Author.Tests.{le-leb, ltb-true, ltb-false, ne_eqb}
-use Rattle.rules.specs.Basics.{if◌then◌else◌}
 use Rattle.commands.specs.Bytes.{space, first_field, more_fields, after_field}
 use Rattle.commands.specs.Decimal.{largest, is_digit, digit_of, all_digits, value_from, number_from, number_in, digits_before, decimal}
 use Rattle.commands.specs.declared.decimal.Number.TheVariants.{Wrong, Is}

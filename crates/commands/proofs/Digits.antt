@@ -1,5 +1,6 @@
 -- Reading a field digit by digit.
 -- Assumes nothing.
+use Rattle.std.proofs.Common.{if◌then◌else◌}
 use mathlib.Core.Path.{◌≡◌, refl, ap, ◌∙◌, sym}
 use mathlib.Core.Logic.{◌⊎◌, inl, inr}
 use mathlib.Core.Bool.{Bool, true, false, not, ◌&&◌, true≢false}
@@ -12,7 +13,6 @@ use lib.Seq.{get_or-drop}
 use native.Mathlib.Nat.{add-zero}
 use lib.Dec.{eqb, leb, ltb}
 use borrow.Author.Tests.{eqb-true, ne_eqb, leb-true, lt-leb, ltb-true, ltb-false}
-use Rattle.rules.specs.Basics.{if◌then◌else◌}
 use Rattle.commands.specs.Bytes.{space, first_field, more_fields, field_ends}
 use Rattle.commands.specs.Decimal.{largest, is_digit, digit_of, all_digits, value_from, number_from, number_in, next_place, field_of}
 use Rattle.commands.specs.declared.decimal.Number.{Number}

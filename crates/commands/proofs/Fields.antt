@@ -1,5 +1,6 @@
 -- Fields and words at a place of a line, byte by byte.
 -- Assumes nothing.
+use Rattle.std.proofs.Common.{if◌then◌else◌}
 use mathlib.Core.Path.{◌≡◌, refl, sym}
 use mathlib.Core.Bool.{Bool, true, false, ◌&&◌, true≢false}
 use mathlib.Core.List.{List, [], ◌∷◌}
@@ -9,7 +10,6 @@ use native.Mathlib.Omega.{arith}
 use lib.ListN.{length, get_or, drop, drop_of_length-le}
 use lib.Seq.{drop-cons}
 use lib.Dec.{eqb}
-use Rattle.rules.specs.Basics.{if◌then◌else◌}
 use Rattle.commands.specs.Bytes.{begins, space, first_field, more_fields, field_ends, after_field}
 use Rattle.commands.proofs.Bools.{and_assoc}
 

@@ -1,5 +1,6 @@
 -- What a machine uses of the lent buffers, and what a command leaves there.
 -- Assumes nothing.
+use Rattle.std.proofs.Common.{if◌then◌else◌}
 use mathlib.Core.Path.{◌≡◌, refl, ap, ◌∙◌, sym}
 use mathlib.Core.Bool.{Bool, true, false, ◌&&◌, false≢true}
 use mathlib.Core.List.{List, [], ◌++◌}
@@ -9,7 +10,6 @@ use lib.ListN.{length, take, drop, drop_of_length-le}
 use lib.Seq.{take_all, take-length, drop-length}
 use lib.Dec.{leb}
 use borrow.Author.Tests.{leb-true, leb-false}
-use Rattle.rules.specs.Basics.{if◌then◌else◌}
 use Rattle.rules.specs.Calls.{outcome, start_of}
 use Rattle.rules.specs.declared.state.Called.{Called}
 use Rattle.commands.specs.Effect.{after, refused_ran, started_ran, new_fits, after_start, new_of}

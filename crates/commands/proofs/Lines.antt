@@ -1,5 +1,6 @@
 -- The fields of a line as the code meets them, one after the other.
 -- Assumes nothing.
+use Rattle.std.proofs.Common.{if◌then◌else◌}
 use mathlib.Core.Path.{◌≡◌, refl, ap, ◌∙◌, sym}
 use mathlib.Core.Bool.{Bool, true, false, ◌&&◌, false≢true}
 use mathlib.Core.List.{List, [], ◌∷◌}
@@ -9,7 +10,6 @@ use native.Mathlib.Omega.{arith}
 use lib.ListN.{length, drop, length-drop}
 use lib.Seq.{drop-drop}
 use lib.Dec.{eqb}
-use Rattle.rules.specs.Basics.{if◌then◌else◌}
 use Rattle.commands.specs.Bytes.{begins, first_field, more_fields, after_field}
 use Rattle.commands.specs.Decimal.{number_in, next_place, field_of}
 use Rattle.commands.specs.Grammar.{where_number, numbers_of, second_number, third_number, step_command, give_command, operation_command}

@@ -1,5 +1,6 @@
 -- Texts put in one after the other, and how long they are.
 -- Assumes nothing.
+use Rattle.std.proofs.Common.{if◌then◌else◌}
 use mathlib.Core.Path.{◌≡◌, refl, ap, ◌∙◌, sym}
 use mathlib.Core.Bool.{Bool, true, false}
 use mathlib.Core.List.{List, [], ◌∷◌, ◌++◌, append_assoc}
@@ -10,7 +11,6 @@ use lib.ListN.{length, take, drop, length-append, length-take, length-drop, take
 use lib.Seq.{take_at, drop-append-add, drop-drop, length-take-le}
 use lib.Dec.{ltb}
 use borrow.Author.Tests.{ltb-true, le-ltb}
-use Rattle.rules.specs.Basics.{if◌then◌else◌}
 use Rattle.commands.specs.Bytes.{put_in}
 use Rattle.commands.specs.Decimal.{digits_before, decimal}
 

@@ -1,5 +1,6 @@
 -- Bytes that begin with a step of one digit and its newline begin with a line that is that step.
 -- Assumes nothing.
+use Rattle.std.proofs.Common.{if◌then◌else◌}
 use mathlib.Core.Path.{◌≡◌, refl, sym, ap, ◌∙◌}
 use mathlib.Core.Bool.{Bool, true, false, not, ◌&&◌, false≢true}
 use mathlib.Core.List.{List, [], ◌∷◌, ◌++◌}
@@ -8,7 +9,6 @@ use native.Mathlib.Omega.{arith}
 use lib.ListN.{length, get_or, drop}
 use lib.Dec.{leb, ltb, eqb}
 use borrow.Author.Tests.{eqb-true, leb-true, le-leb, le-ltb, not-false, not-true}
-use Rattle.rules.specs.Basics.{if◌then◌else◌}
 use Rattle.rules.proofs.Bools.{and₂, and₃}
 use Rattle.commands.specs.Bytes.{begins}
 use Rattle.commands.specs.Decimal.{is_digit, digits_before, decimal}

@@ -1,5 +1,6 @@
 -- A command on its one core is what the rules say that it does, of a machine in its ranges; and what a command leaves is in its ranges again.
 -- Assumes nothing.
+use Rattle.std.proofs.Common.{if◌then◌else◌}
 use mathlib.Core.Path.{◌≡◌, refl, sym, ap, ◌∙◌}
 use mathlib.Core.Bool.{Bool, true, false, true≢false, false≢true}
 use mathlib.Core.List.{List, ◌++◌}
@@ -7,7 +8,6 @@ use Prim.Native.Nat.{ℕ, ◌%◌}
 use lib.ListN.{length, take, drop, replicate, length-replicate}
 use lib.Dec.{eqb}
 use borrow.Author.Tests.{eqb-true, eqb-false, eq-eqb}
-use Rattle.rules.specs.Basics.{if◌then◌else◌}
 use Rattle.rules.specs.Answers.{number_of}
 use Rattle.rules.specs.Ranges.{in_ranges}
 use Rattle.rules.specs.Calls.{with_core, start_of, give_of, step_of, poke_of, show_of, word_refusal, lent_fits}

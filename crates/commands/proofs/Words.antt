@@ -1,12 +1,12 @@
 -- A line's commands and operations by the words that it begins with.
 -- Assumes nothing.
+use Rattle.std.proofs.Common.{if◌then◌else◌}
 use mathlib.Core.Path.{◌≡◌, refl, ap, ◌∙◌, sym}
 use mathlib.Core.Bool.{Bool, true, false}
 use mathlib.Core.List.{List}
 use Prim.Native.Nat.{ℕ, ◌+◌}
 use lib.ListN.{length, drop}
 use lib.Seq.{drop-drop}
-use Rattle.rules.specs.Basics.{if◌then◌else◌}
 use Rattle.rules.specs.declared.answers.Operation.TheVariants.{Load, Ll, Store, Sc}
 use Rattle.commands.specs.Bytes.{begins}
 use Rattle.commands.specs.Grammar.{

@@ -1,5 +1,6 @@
 -- Writing a number's digits, the last one first.
 -- Assumes nothing.
+use Rattle.std.proofs.Common.{if◌then◌else◌}
 use mathlib.Core.Path.{◌≡◌, refl, ap, ◌∙◌, sym}
 use mathlib.Core.Bool.{Bool, true, false}
 use mathlib.Core.List.{List, [], ◌∷◌, ◌++◌, append_assoc}
@@ -10,7 +11,6 @@ use lib.ListN.{length, take, drop, set, length-set, length-append}
 use lib.Seq.{take-set-le, set_split}
 use lib.Dec.{ltb, leb}
 use borrow.Author.Tests.{lt-ltb, le-ltb, ltb-true, ltb-false, leb-true, leb-false}
-use Rattle.rules.specs.Basics.{if◌then◌else◌}
 use Rattle.commands.specs.Bytes.{put_in}
 use Rattle.commands.specs.Decimal.{digits_before, decimal}
 use Rattle.commands.proofs.Placed.{one_digit}

@@ -1,6 +1,5 @@
 -- Bytes: what a line begins with, its fields, and bytes put in at a place.
-use Rattle.std.specs.Prelude.{ℕ, ◌+◌, Bool, true, false, ◌&&◌, List, [], ◌∷◌, ◌++◌, length, take, drop, eqb}
-use Rattle.rules.specs.Basics.{if◌then◌else◌}
+use Rattle.std.specs.Prelude.{ℕ, ◌+◌, Bool, true, false, ◌&&◌, List, [], ◌∷◌, ◌++◌, length, take, drop, eqb, if◌then◌else◌}
 
 -- the bytes begin with a word
 unfoldable pub begins : List ℕ → List ℕ → Bool

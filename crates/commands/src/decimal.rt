@@ -4,14 +4,14 @@ ghost use Rattle.commands.specs.Bytes.{first_field, field_ends, put_in};
 ghost use Rattle.commands.specs.Decimal.{is_digit, digit_of, number_from, field_of, decimal};
 
 // What a field of a line says.
-#[derive(Drop)]
+#[derive(Clone, Copy)]
 pub enum Number {
     Wrong,
     Is(u32),
 }
 
 // A field read as a number, whether a further field follows, and where that one begins.
-#[derive(Drop)]
+#[derive(Clone, Copy)]
 pub(crate) struct Field {
     pub number: Number,
     pub more: bool,

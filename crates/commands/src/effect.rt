@@ -1,6 +1,5 @@
 // The machine that the lines run on, and how a `new` begins one.
-ghost use Rattle.std.specs.Prelude.{◌≡◌, ◌≤◌, length, leb};
-ghost use Rattle.rules.specs.Basics.{if◌then◌else◌};
+ghost use Rattle.std.specs.Prelude.{◌≡◌, ◌≤◌, length, leb, if◌then◌else◌};
 ghost use Rattle.commands.specs.Effect.{after, no_machine, refused_ran, begun_by, started_ran, new_of};
 ghost use Rattle.commands.specs.Turns.{set_up};
 
@@ -9,14 +8,14 @@ use machine::{Answer, Called, Handed, Machine};
 
 // The machine that the lines run on: `begun` is 0 before the first accepted `new`, and then 1. It is a whole
 // word, since with a bool before it a machine is copied as an odd number of bytes, which costs more.
-#[derive(Drop)]
+#[derive(Clone, Copy)]
 pub struct Session {
     pub begun: u64,
     pub machine: Machine,
 }
 
 // What a line answers, the record that it makes, if it makes one, and what it leaves.
-#[derive(Drop)]
+#[derive(Clone, Copy)]
 pub struct Ran {
     pub answer: Answer,
     pub made: Handed,

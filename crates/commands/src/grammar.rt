@@ -19,7 +19,7 @@ use crate::decimal::{Number, field_at, is_digit};
 use machine::{GuestAddress, Operation};
 
 // A line that is understood says one of these. An entry count that is left out stays left out.
-#[derive(Drop)]
+#[derive(Clone, Copy)]
 pub enum Command {
     NotUnderstood,
     New(u32, u32),
@@ -31,7 +31,7 @@ pub enum Command {
 }
 
 // One to three numbers, with single spaces between them.
-#[derive(Drop)]
+#[derive(Clone, Copy)]
 pub enum Numbers {
     Wrong,
     One(u32),

@@ -1,3 +1,4 @@
+#![tactic(auto)]
 // One line of script: its grammar, its effect on a machine, and the text of its answer.
 //
 // A public call takes any input. Its contract is an equation to a definition of specs/, which says

@@ -85,7 +85,7 @@ fn put_answer(number: u32, out: &mut [u8], at: usize) -> usize
 
 // The last two digits of a line's number, and the digits before them, which are written anew once in
 // a hundred lines. No places: they are not written (a number below 100, or of more than ten digits).
-#[derive(Drop)]
+#[derive(Clone, Copy)]
 pub struct LineNumber {
     pub last: u8,
     pub digits: [u8; 8],

@@ -20,14 +20,14 @@ use machine::{Answer, Core, GuestAddress, Handed, Operation};
 
 // Whether a command leaves the machine as it is but for one core, and which: a give and a step change their own; a
 // poke and a show change none, and any core will do.
-#[derive(Drop)]
+#[derive(Clone, Copy)]
 pub struct OneCore {
     pub one: bool,
     pub core: usize,
 }
 
 // What a command answers, the record that it makes, if it makes one, and what becomes of the core.
-#[derive(Drop)]
+#[derive(Clone, Copy)]
 pub struct Did {
     pub answer: Answer,
     pub made: Handed,

@@ -1,8 +1,7 @@
 -- A give and a step whose core is put back where it is refused too leave what their rules say.
 -- Assumes nothing.
-use Rattle.std.proofs.Common.{◌≡◌, ℕ, ◌%◌, ◌<◌, Bool, true, false, eqb, List, length, get_or, set, sym, refl, ap, ◌∙◌, mod-eq_of_lt, arith, eqb-true}
+use Rattle.std.proofs.Common.{◌≡◌, ℕ, ◌%◌, ◌<◌, Bool, true, false, eqb, List, length, get_or, set, sym, refl, ap, ◌∙◌, mod-eq_of_lt, arith, eqb-true, if◌then◌else◌}
 use lib.Seq.{set-get_or}
-use Rattle.rules.specs.Basics.{if◌then◌else◌}
 use Rattle.rules.specs.Word.{read_word}
 use Rattle.rules.specs.Life.{idle, given, micro_step}
 use Rattle.rules.specs.Entry.{entry_of}

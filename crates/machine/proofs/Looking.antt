@@ -1,9 +1,9 @@
 -- What the code looks at in each core, in one pass, is what the ranges ask.
 -- Assumes nothing.
-use Rattle.std.proofs.Common.{◌≡◌, ℕ, ◌/◌, ◌%◌, ◌<◌, ◌≤◌, Bool, true, false, not, ◌&&◌, ◌||◌, eqb, ltb, leb, sym, refl, ap, ◌∙◌, arith, ltb-false, ltb-true, le-ltb, lt-ltb, ne_eqb, eqb-true, le-leb, leb-false, leb-true}
+use Rattle.std.proofs.Common.{◌≡◌, ℕ, ◌/◌, ◌%◌, ◌<◌, ◌≤◌, Bool, true, false, not, ◌&&◌, ◌||◌, eqb, ltb, leb, sym, refl, ap, ◌∙◌, arith, ltb-false, ltb-true, le-ltb, lt-ltb, ne_eqb, eqb-true, le-leb, leb-false, leb-true, if◌then◌else◌}
 use mathlib.Core.Bool.{false≢true, and-true}
 use borrow.Author.Tests.{eqb-false, lt-leb}
-use Rattle.rules.specs.Basics.{if◌then◌else◌, all_below}
+use Rattle.rules.specs.Basics.{all_below}
 use Rattle.rules.specs.Kinds.{is_ll, is_store, is_sc}
 use Rattle.rules.specs.Ranges.{sizes_fit, uses_value, uses_read, uses_passed, in_use_or0, link_fields, operation_occurs, step_occurs, operation_fits, inside, place_fits, core_fits, core_at, every_core_fits, in_ranges}
 use Rattle.machine.specs.Looked.{stage_of, can_be_at, spare, spare_are0, word_at, words_of, words_for, room_of, looks_right_at, core_looks_right, fits_at}

@@ -1,6 +1,5 @@
 -- What a give and a step do to their core, where they are refused too: the core then stays as it is, so that it can be put back either way.
-use Rattle.std.specs.Prelude.{ℕ, ◌%◌, false, List, length, ◌==◌, slice_index, slice_set}
-use Rattle.rules.specs.Basics.{if◌then◌else◌}
+use Rattle.std.specs.Prelude.{ℕ, ◌%◌, false, List, length, ◌==◌, slice_index, slice_set, if◌then◌else◌}
 use Rattle.rules.specs.Entry.{entry_of}
 use Rattle.rules.specs.Word.{read_word, write_word}
 use Rattle.rules.specs.Life.{given, micro_step}

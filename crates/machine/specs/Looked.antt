@@ -1,6 +1,5 @@
 -- No rule of the document: what the code looks at in a core, with a test of several fields at once. Where the sizes fit it asks of the eight cores what the page Ranges.antt of `rules` asks (`looked` in proofs/Looking.antt), and no public contract cites it.
-use Rattle.std.specs.Prelude.{ℕ, ◌+◌, ◌*◌, ◌/◌, ◌%◌, ◌^◌, Bool, ◌&&◌, ◌==◌, bit_and, nat_le, nat_lt}
-use Rattle.rules.specs.Basics.{if◌then◌else◌}
+use Rattle.std.specs.Prelude.{ℕ, ◌+◌, ◌*◌, ◌/◌, ◌%◌, ◌^◌, Bool, ◌&&◌, ◌==◌, bit_and, nat_le, nat_lt, if◌then◌else◌}
 use Rattle.rules.specs.Ranges.{core_at}
 use Rattle.rules.specs.declared.cores.Core.{Core}
 use Rattle.rules.specs.declared.state.Machine.{Machine}

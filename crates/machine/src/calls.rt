@@ -1,7 +1,6 @@
 // `start`, `poke` and `show`, and what the give and the step of place.rt make of their core. Each works out its
 // refusal first, test by test in the order of the rules.
-ghost use Rattle.std.specs.Prelude.{◌≡◌, length};
-ghost use Rattle.rules.specs.Basics.{if◌then◌else◌};
+ghost use Rattle.std.specs.Prelude.{◌≡◌, length, if◌then◌else◌};
 ghost use Rattle.rules.specs.Answers.{number_of};
 ghost use Rattle.rules.specs.Entry.{entry_of};
 ghost use Rattle.rules.specs.Ranges.{in_ranges};
@@ -100,7 +99,7 @@ pub(crate) fn taken_unless(number: u32) -> Answer
 }
 
 // What a give leaves of its core, and its answer.
-#[derive(Drop)]
+#[derive(Clone, Copy)]
 pub struct Grant {
     pub core: Core,
     pub answer: Answer,

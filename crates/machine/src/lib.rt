@@ -1,3 +1,4 @@
+#![tactic(auto)]
 // The memory engine: a machine of 1 to 8 guest cores, stepped one micro-step of one core at a time.
 //
 // A public call takes any input. Its contract is an equation to a definition of the crate `rules`,

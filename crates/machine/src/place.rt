@@ -11,7 +11,7 @@ use crate::ranges;
 use rules::{Answer, Called, Handed, Machine, Operation};
 
 // What a call hands back that leaves the machine with its caller.
-#[derive(Drop)]
+#[derive(Clone, Copy)]
 pub struct Stepped {
     pub answer: Answer,
     pub made: Handed,

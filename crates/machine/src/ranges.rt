@@ -1,7 +1,6 @@
 // The ranges of sizes and of the state, and the damage of a table's entry.
-ghost use Rattle.std.specs.Prelude.{◌≡◌, ◌%◌, ◌<◌, ◌&&◌};
+ghost use Rattle.std.specs.Prelude.{◌≡◌, ◌%◌, ◌<◌, ◌&&◌, if◌then◌else◌};
 ghost use Rattle.rules.specs.Sizes.{cores_fit, bytes_fit, entries_fit, tables_fit};
-ghost use Rattle.rules.specs.Basics.{if◌then◌else◌};
 ghost use Rattle.rules.specs.Ranges.{sizes_fit, in_ranges, damaged};
 ghost use Rattle.machine.specs.Looked.{can_be_at, spare_are0, word_at, words_of, words_for, room_of, core_looks_right, fits_at};
 

@@ -1,6 +1,5 @@
 // Words of guest memory, which is lent as bytes: four bytes a word, the lowest first.
-ghost use Rattle.std.specs.Prelude.{◌≡◌, ◌+◌, ◌<◌, ◌≤◌, length, replicate};
-ghost use Rattle.rules.specs.Basics.{if◌then◌else◌};
+ghost use Rattle.std.specs.Prelude.{◌≡◌, ◌+◌, ◌<◌, ◌≤◌, length, replicate, if◌then◌else◌};
 ghost use Rattle.rules.specs.Word.{read_word, write_word};
 
 use rules::GuestAddress;

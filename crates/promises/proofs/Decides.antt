@@ -1,5 +1,6 @@
 -- The function that decides the success rule decides exactly what document 01 words. The entry rule is any.
 -- Assumes nothing.
+use Rattle.std.proofs.Common.{if◌then◌else◌}
 use mathlib.Core.Path.{◌≡◌, refl, sym, ap, ◌∙◌}
 use mathlib.Core.Logic.{◌⊎◌, inl, inr}
 use mathlib.Core.Bool.{Bool, true, false, not, ◌||◌, true≢false, false≢true}
@@ -7,7 +8,6 @@ use mathlib.Core.List.{[], ◌∷◌, ◌++◌}
 use Prim.Native.Nat.{ℕ}
 use lib.Dec.{eqb}
 use borrow.Author.Tests.{eqb-true, eqb-false, eq-eqb, ne_eqb}
-use Rattle.rules.specs.Basics.{if◌then◌else◌}
 use Rattle.rules.specs.History.{History, own_ll, own_sc, spoils, succeeds}
 use Rattle.rules.specs.declared.entry.GuestAddress.{GuestAddress}
 use Rattle.rules.specs.declared.entry.EntryNumber.{EntryNumber}

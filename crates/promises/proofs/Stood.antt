@@ -1,5 +1,6 @@
 -- How the table stands in a run: from the invariant.
 -- Assumes nothing.
+use Rattle.std.proofs.Common.{if◌then◌else◌}
 use mathlib.Core.Path.{◌≡◌, refl, sym, ap, subst, ◌∙◌}
 use mathlib.Core.Bool.{Bool, true, false, not, ◌&&◌}
 use mathlib.Core.List.{List}
@@ -8,7 +9,6 @@ use native.Mathlib.Omega.{arith}
 use lib.ListN.{length, get_or}
 use lib.Dec.{leb, eqb}
 use borrow.Author.Tests.{eqb-true, eqb-false, eq-eqb, ne_eqb, le-ltb, leb-true}
-use Rattle.rules.specs.Basics.{if◌then◌else◌}
 use Rattle.rules.specs.Sizes.{written}
 use Rattle.rules.specs.Entry.{entry_of}
 use Rattle.rules.specs.Kinds.{is_load, code_of, address_of}

@@ -1,10 +1,10 @@
 -- What holds of the state and of the arguments where a call is not refused.
 -- Assumes nothing.
-use Rattle.std.proofs.Common.{◌≡◌, ℕ, zero, suc, ◌+◌, ◌/◌, ◌%◌, ◌<◌, ◌≤◌, Bool, true, false, not, ◌&&◌, ◌||◌, eqb, ltb, leb, List, length, refl, ap, ◌∙◌, mod-lt, arith, ltb-true, eqb-true, leb-false, leb-true}
+use Rattle.std.proofs.Common.{◌≡◌, ℕ, zero, suc, ◌+◌, ◌/◌, ◌%◌, ◌<◌, ◌≤◌, Bool, true, false, not, ◌&&◌, ◌||◌, eqb, ltb, leb, List, length, refl, ap, ◌∙◌, mod-lt, arith, ltb-true, eqb-true, leb-false, leb-true, if◌then◌else◌}
 use mathlib.Core.Bool.{false≢true}
 use lib.Arith.{lt_of_le-ne}
 use borrow.Author.Tests.{eqb-false, not-false}
-use Rattle.rules.specs.Basics.{if◌then◌else◌, all_below}
+use Rattle.rules.specs.Basics.{all_below}
 use Rattle.rules.specs.Sizes.{cores_fit, bytes_fit, entries_fit, tables_fit}
 use Rattle.rules.specs.Entry.{entry_of}
 use Rattle.rules.specs.Ranges.{core_at, inside, operation_fields, value_fields, link_fields, operation_fits, addresses_fit, place_fits, core_fits, sizes_fit, every_core_fits, in_ranges, damaged}

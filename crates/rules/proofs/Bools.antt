@@ -1,8 +1,7 @@
 -- What a test that holds, or a refusal that is not given, says of its parts.
 -- Assumes nothing.
-use Rattle.std.proofs.Common.{◌≡◌, ℕ, suc, Bool, true, false, not, ◌&&◌, ◌||◌, sym, refl, true≢false, arith}
+use Rattle.std.proofs.Common.{◌≡◌, ℕ, suc, Bool, true, false, not, ◌&&◌, ◌||◌, sym, refl, true≢false, arith, if◌then◌else◌}
 use mathlib.Core.Bool.{false≢true}
-use Rattle.rules.specs.Basics.{if◌then◌else◌}
 
 pub and₂ : (a b : Bool) → a && b ≡ true → (a ≡ true) × (b ≡ true)
 and₂ true b h = (refl, h)

@@ -1,9 +1,9 @@
 -- A core that fits still fits after it is given an operation and after each of its micro-steps, and so does the machine that holds it.
 -- Assumes nothing.
-use Rattle.std.proofs.Common.{◌≡◌, ℕ, zero, suc, ◌<◌, ◌≤◌, Bool, true, false, not, ◌||◌, eqb, ltb, leb, ◌⊎◌, List, length, get_or, set, replicate, refl, ap, ◌∙◌, inl, inr, ⊎_elim, arith, get_or-set_other, get_or-set_same, ltb-false, ltb-true, lt-ltb, eq-eqb, eqb-true, leb-true}
+use Rattle.std.proofs.Common.{◌≡◌, ℕ, zero, suc, ◌<◌, ◌≤◌, Bool, true, false, not, ◌||◌, eqb, ltb, leb, ◌⊎◌, List, length, get_or, set, replicate, refl, ap, ◌∙◌, inl, inr, ⊎_elim, arith, get_or-set_other, get_or-set_same, ltb-false, ltb-true, lt-ltb, eq-eqb, eqb-true, leb-true, if◌then◌else◌}
 use lib.Seq.{set_out}
 use borrow.Author.Tests.{eqb-false}
-use Rattle.rules.specs.Basics.{if◌then◌else◌, all_below}
+use Rattle.rules.specs.Basics.{all_below}
 use Rattle.rules.specs.Kinds.{is_load, is_ll, is_store, address_of}
 use Rattle.rules.specs.Life.{resting, idle, given, advanced, judged, passes, micro_step, load_step, lock_step, mark_step, access_step, ll_access, sc_access}
 use Rattle.rules.specs.Ranges.{value_fields, link_fields, operation_occurs, step_occurs, operation_fits, inside, place_fits, core_fits, core_at, every_core_fits, sizes_fit, in_ranges}

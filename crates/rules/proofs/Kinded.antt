@@ -1,8 +1,7 @@
 -- A micro-step writes, links and ends its own link as the kind of its record says.
 -- Assumes nothing.
-use Rattle.std.proofs.Common.{◌≡◌, ℕ, Bool, true, false, eqb, refl, ⊎_elim, eqb-true}
+use Rattle.std.proofs.Common.{◌≡◌, ℕ, Bool, true, false, eqb, refl, ⊎_elim, eqb-true, if◌then◌else◌}
 use borrow.Author.Tests.{eqb-false}
-use Rattle.rules.specs.Basics.{if◌then◌else◌}
 use Rattle.rules.specs.Kinds.{is_load, is_ll, is_store, writes_kind, links_kind, unlinks_kind}
 use Rattle.rules.specs.Life.{nowhere, ll_access, store_access, sc_access, micro_step, load_step, lock_step, mark_step, access_step}
 use Rattle.rules.specs.Ranges.{operation_occurs}

@@ -1,9 +1,8 @@
 -- The laws of specs/Laws.antt, proved.
 -- Assumes nothing.
-use Rattle.std.proofs.Common.{◌≡◌, ℕ, ◌%◌, Bool, true, false, eqb, List, length, replicate, sym, refl, ap, ◌∙◌, length-set, eq-eqb, eqb-true}
+use Rattle.std.proofs.Common.{◌≡◌, ℕ, ◌%◌, Bool, true, false, eqb, List, length, replicate, sym, refl, ap, ◌∙◌, length-set, eq-eqb, eqb-true, if◌then◌else◌}
 use lib.ListN.{length-replicate}
 use borrow.Author.Tests.{eqb-false}
-use Rattle.rules.specs.Basics.{if◌then◌else◌}
 use Rattle.rules.specs.Entry.{entry_of}
 use Rattle.rules.specs.Word.{read_word, write_word}
 use Rattle.rules.specs.Life.{idle, given}

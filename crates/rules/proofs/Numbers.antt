@@ -1,7 +1,6 @@
 -- The number of each call's answer is the number of its refusal, 0 where it is not refused.
 -- Assumes nothing.
-use Rattle.std.proofs.Common.{◌≡◌, ℕ, Bool, true, false, eqb, List, length, sym, refl, ap, ◌∙◌, eqb-true}
-use Rattle.rules.specs.Basics.{if◌then◌else◌}
+use Rattle.std.proofs.Common.{◌≡◌, ℕ, Bool, true, false, eqb, List, length, sym, refl, ap, ◌∙◌, eqb-true, if◌then◌else◌}
 use Rattle.rules.specs.Answers.{number_of}
 use Rattle.rules.specs.Kinds.{is_load, is_ll, is_store}
 use Rattle.rules.specs.Life.{micro_step, load_step, lock_step, mark_step, access_step, delivered}

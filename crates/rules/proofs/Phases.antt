@@ -1,7 +1,6 @@
 -- A core of a run is the picture of a phase: which operation it is at, at which step, and its link. What each micro-step makes of a picture, by cases.
 -- Assumes nothing.
-use Rattle.std.proofs.Common.{◌≡◌, ℕ, Bool, true, false, eqb, refl}
-use Rattle.rules.specs.Basics.{if◌then◌else◌}
+use Rattle.std.proofs.Common.{◌≡◌, ℕ, Bool, true, false, eqb, refl, if◌then◌else◌}
 use Rattle.rules.specs.Sizes.{written}
 use Rattle.rules.specs.Kinds.{address_of}
 use Rattle.rules.specs.Life.{resting, given, advanced, judged, moves, ll_mark, store_mark, sc_mark, passes, ll_access, store_access, sc_access, micro_step, load_step, lock_step, mark_step, access_step, delivered}

@@ -1,9 +1,8 @@
 -- What holds after every list of calls from a fresh machine: memory and history are the reference machine's, each link and each owner mark is the history's, and each core is where its lock and its lists say.
 -- The entry rule, and reading and writing a word, are never looked into here.
 -- Assumes nothing.
-use Rattle.std.proofs.Common.{◌≡◌, ℕ, ◌<◌, ◌≤◌, Bool, true, false, eqb, List, ◌∷◌, length, get_or, sym, refl, ap, ◌∙◌, subst, arith, eqb-true}
+use Rattle.std.proofs.Common.{◌≡◌, ℕ, ◌<◌, ◌≤◌, Bool, true, false, eqb, List, ◌∷◌, length, get_or, sym, refl, ap, ◌∙◌, subst, arith, eqb-true, if◌then◌else◌}
 use borrow.Author.Tests.{eqb-false}
-use Rattle.rules.specs.Basics.{if◌then◌else◌}
 use Rattle.rules.specs.Sizes.{written}
 use Rattle.rules.specs.Entry.{entry_of}
 use Rattle.rules.specs.Ranges.{core_at}

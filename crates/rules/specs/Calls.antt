@@ -1,6 +1,5 @@
 -- The five calls: the refusals in document 01's order, and what each call answers, hands out and leaves.
-use Rattle.std.specs.Prelude.{ℕ, ◌%◌, Bool, not, ◌&&◌, List, length, replicate, ◌==◌, nat_le, slice_index, slice_set}
-use Rattle.rules.specs.Basics.{if◌then◌else◌}
+use Rattle.std.specs.Prelude.{ℕ, ◌%◌, Bool, not, ◌&&◌, List, length, replicate, ◌==◌, nat_le, slice_index, slice_set, if◌then◌else◌}
 use Rattle.rules.specs.Sizes.{cores_fit, bytes_fit, tables_fit}
 use Rattle.rules.specs.Entry.{entry_of}
 use Rattle.rules.specs.Word.{read_word, write_word}

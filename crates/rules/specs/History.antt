@@ -1,6 +1,5 @@
 -- What the history of access steps says: whether a store-conditional succeeds, and the links and owner marks it makes. A history is the records handed out, the latest first; `entry` is the entry rule.
-use Rattle.std.specs.Prelude.{ℕ, Bool, true, false, not, ◌&&◌, List, [], ◌∷◌, ◌==◌}
-use Rattle.rules.specs.Basics.{if◌then◌else◌}
+use Rattle.std.specs.Prelude.{ℕ, Bool, true, false, not, ◌&&◌, List, [], ◌∷◌, ◌==◌, if◌then◌else◌}
 use Rattle.rules.specs.Sizes.{written}
 use Rattle.rules.specs.Kinds.{links_kind, unlinks_kind, spoils_kind}
 use Rattle.rules.specs.Life.{nowhere}

@@ -1,6 +1,5 @@
 -- The operations, and the kinds of record that their access steps make.
-use Rattle.std.specs.Prelude.{ℕ, Bool, ◌||◌, ◌==◌}
-use Rattle.rules.specs.Basics.{if◌then◌else◌}
+use Rattle.std.specs.Prelude.{ℕ, Bool, ◌||◌, ◌==◌, if◌then◌else◌}
 use Rattle.rules.specs.declared.entry.GuestAddress.{GuestAddress}
 use Rattle.rules.specs.declared.answers.Operation.{Operation}
 use Rattle.rules.specs.declared.answers.Operation.TheVariants.{Load, Ll, Store, Sc}

@@ -1,6 +1,5 @@
 -- What holds of the rules of this crate, beside each call's own contract. The proofs are in proofs/Lawful.antt.
-use Rattle.std.specs.Prelude.{◌≡◌, ℕ, ◌+◌, ◌/◌, ◌%◌, ◌^◌, ◌<◌, ◌≤◌, Bool, true, false, List, [], length, replicate, ◌≢◌, slice_index}
-use Rattle.rules.specs.Basics.{if◌then◌else◌}
+use Rattle.std.specs.Prelude.{◌≡◌, ℕ, ◌+◌, ◌/◌, ◌%◌, ◌^◌, ◌<◌, ◌≤◌, Bool, true, false, List, [], length, replicate, ◌≢◌, slice_index, if◌then◌else◌}
 use Rattle.rules.specs.Sizes.{entries_fit}
 use Rattle.rules.specs.Kinds.{writes_kind, links_kind, unlinks_kind}
 use Rattle.rules.specs.Life.{nowhere, idle, micro_step}

@@ -1,6 +1,5 @@
 -- Document 01, "Life of an operation": what each micro-step makes of a core, of its entry's owner and holder, and of the word at its address.
-use Rattle.std.specs.Prelude.{ℕ, Bool, true, false, ◌&&◌, ◌==◌, nat_eq}
-use Rattle.rules.specs.Basics.{if◌then◌else◌}
+use Rattle.std.specs.Prelude.{ℕ, Bool, true, false, ◌&&◌, ◌==◌, nat_eq, if◌then◌else◌}
 use Rattle.rules.specs.Sizes.{written}
 use Rattle.rules.specs.Kinds.{is_load, is_ll, is_store, code_of, address_of, value_of, kind_of}
 use Rattle.rules.specs.declared.entry.GuestAddress.{GuestAddress}

@@ -1,6 +1,5 @@
 -- The reference machine: it has neither table nor locks, runs whole operations one after another, and judges each store-conditional by the written rule from the history of finished accesses alone.
-use Rattle.std.specs.Prelude.{ℕ, List, [], ◌∷◌, ◌==◌}
-use Rattle.rules.specs.Basics.{if◌then◌else◌}
+use Rattle.std.specs.Prelude.{ℕ, List, [], ◌∷◌, ◌==◌, if◌then◌else◌}
 use Rattle.rules.specs.Word.{read_word, write_word}
 use Rattle.rules.specs.Kinds.{poke_core, poke_kind}
 use Rattle.rules.specs.History.{History, succeeds}

@@ -1,6 +1,5 @@
 -- Runs of the machine from a fresh one: lists of calls with any arguments, the latest first, refused and waiting ones included; and what a run hands out and delivers.
-use Rattle.std.specs.Prelude.{◌≡◌, ℕ, Bool, true, false, ◌&&◌, List, [], ◌∷◌, length, ◌==◌}
-use Rattle.rules.specs.Basics.{if◌then◌else◌}
+use Rattle.std.specs.Prelude.{◌≡◌, ℕ, Bool, true, false, ◌&&◌, List, [], ◌∷◌, length, ◌==◌, if◌then◌else◌}
 use Rattle.rules.specs.Entry.{entry_of}
 use Rattle.rules.specs.Life.{nowhere}
 use Rattle.rules.specs.Answers.{number_of}

@@ -1,5 +1,6 @@
 -- Laws of cutting bytes into lines.
 -- Assumes nothing.
+use Rattle.std.proofs.Common.{if◌then◌else◌}
 use mathlib.Core.Path.{◌≡◌, refl, ap, sym, ◌∙◌}
 use mathlib.Core.Bool.{Bool, true, false}
 use mathlib.Core.List.{List, [], ◌∷◌, ◌++◌, append_assoc, append-nil}
@@ -11,7 +12,6 @@ use lib.ListN.{length, get_or, take, drop, set, length-take, length-drop}
 use lib.Seq.{drop-cons, drop-drop, drop-nil, drop-set-lt, get_or-drop, take_all, take-nil, take-suc, take-suc-set, take-take}
 use lib.Dec.{eqb, leb}
 use borrow.Author.Tests.{eq-eqb, ne_eqb, leb-true, leb-false}
-use Rattle.rules.specs.Basics.{if◌then◌else◌}
 use Rattle.commands.specs.Grammar.{step_word, command_of}
 use Rattle.commands.specs.Promises.{ShortStep}
 use Rattle.commands.specs.declared.grammar.Command.{Command}

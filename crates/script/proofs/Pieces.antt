@@ -1,5 +1,6 @@
 -- What is handed on does not depend on the pieces.
 -- Assumes nothing.
+use Rattle.std.proofs.Common.{if◌then◌else◌}
 use mathlib.Core.Path.{◌≡◌, refl, ap, sym, ◌∙◌}
 use mathlib.Core.Bool.{Bool, true, false}
 use mathlib.Core.List.{List, [], ◌∷◌, ◌++◌, map-append, append_assoc, append-nil}
@@ -8,7 +9,6 @@ use native.Mathlib.Omega.{arith}
 use lib.ListN.{take}
 use lib.Seq.{take-take}
 use lib.Dec.{eqb}
-use Rattle.rules.specs.Basics.{if◌then◌else◌}
 use Rattle.script.proofs.Cutting.{by_test}
 use Rattle.script.specs.Lines.{whole_from, whole_lines, left_from, unfinished, last_line, handed, handed_on, cut_from, joined, PiecesDoNotMatter}
 

@@ -1,6 +1,5 @@
 -- How the input is cut into lines.
-use Rattle.std.specs.Prelude.{◌≡◌, List, [], ◌∷◌, ◌++◌, map, ℕ, ◌-◌, take, drop, eqb}
-use Rattle.rules.specs.Basics.{if◌then◌else◌}
+use Rattle.std.specs.Prelude.{◌≡◌, List, [], ◌∷◌, ◌++◌, map, ℕ, ◌-◌, take, drop, eqb, if◌then◌else◌}
 
 -- the bytes before the first newline, or all of them
 abbrev pub first_line : List ℕ → List ℕ
