@@ -1,19 +1,16 @@
 -- A give and a step whose core is put back where it is refused too leave what their rules say.
 -- Assumes nothing.
-use Rattle.std.proofs.Common.{◌≡◌, ℕ, ◌%◌, ◌<◌, Bool, true, false, eqb, List, length, get_or, set, sym, refl, ap, ◌∙◌, mod-eq_of_lt, arith, eqb-true, if◌then◌else◌}
+use Rattle.std.proofs.Common.{◌≡◌, ℕ, ◌%◌, ◌<◌, Bool, true, false, eqb, List, length, sym, refl, ap, ◌∙◌, mod-eq_of_lt, arith, eqb-true}
 use lib.Seq.{set-get_or}
-use Rattle.rules.specs.Word.{read_word}
-use Rattle.rules.specs.Life.{idle, given, micro_step}
+use Rattle.rules.specs.Life.{idle, micro_step}
 use Rattle.rules.specs.Entry.{entry_of}
 use Rattle.rules.specs.Ranges.{core_at}
 use Rattle.rules.specs.Calls.{Outcome, outcome, answered, with_core, entry_at, give_refusal, give_of, step_refusal, step_of, stepped, micro_step_at}
 use Rattle.machine.specs.Reach.{Reach}
-use Rattle.machine.specs.Acted.{picked, given_unless, taken_unless, Acted, acted, refusing, done, acted_of, turned_of}
+use Rattle.machine.specs.Acted.{picked, given_unless, taken_unless, Acted, acted, acted_of, turned_of}
 use Rattle.rules.specs.declared.entry.EntryNumber.{EntryNumber}
 use Rattle.rules.specs.declared.answers.Operation.{Operation}
 use Rattle.rules.specs.declared.answers.Answer.{Answer}
-use Rattle.rules.specs.declared.answers.Answer.TheVariants.{Refused, Taken}
-use Rattle.rules.specs.declared.answers.Handed.TheVariants.{Nothing}
 use Rattle.rules.specs.declared.cores.Core.{Core}
 use Rattle.rules.specs.declared.cores.MicroStep.{MicroStep}
 use Rattle.rules.specs.declared.state.Machine.{Machine}

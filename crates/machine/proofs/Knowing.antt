@@ -2,20 +2,19 @@
 -- Assumes nothing.
 use Rattle.std.proofs.Common.{◌≡◌, ℕ, ◌+◌, ◌%◌, ◌<◌, ◌≤◌, Bool, true, false, not, ◌&&◌, eqb, ltb, leb, List, length, get_or, sym, refl, ap, ◌∙◌, arith, ltb-false, ltb-true, le-ltb, lt-ltb, eqb-true, le-leb, leb-false, leb-true, if◌then◌else◌}
 use mathlib.Core.Bool.{false≢true}
-use borrow.Author.Tests.{not-false, eqb-false}
-use Rattle.rules.specs.Kinds.{address_of}
+use borrow.Author.Tests.{eqb-false}
 use Rattle.rules.specs.Entry.{entry_of}
 use Rattle.rules.specs.declared.entry.EntryNumber.{EntryNumber}
 use Rattle.rules.specs.declared.entry.GuestAddress.{GuestAddress}
 use Rattle.rules.specs.Ranges.{core_at, in_ranges, damaged}
-use Rattle.rules.specs.Calls.{Outcome, outcome, answered, with_core, address_refusal, lent_fits, entry_at, mark_at, poke_outcome, give_refusal, give_of, step_refusal, step_of, word_refusal, poke_of, show_of}
+use Rattle.rules.specs.Calls.{answered, address_refusal, lent_fits, entry_at, mark_at, poke_outcome, give_refusal, give_of, step_refusal, step_of, word_refusal, poke_of, show_of}
 use Rattle.rules.specs.declared.answers.Operation.{Operation}
 use Rattle.rules.specs.declared.cores.Core.{Core}
 use Rattle.rules.specs.declared.state.Machine.{Machine}
 use Rattle.rules.proofs.Bools.{and₃}
 use Rattle.rules.proofs.Accepted.{sizes_fit_lem, entry_below, core_small, core_fits_lem, fits, word_inside, busy_inside, address_accepted}
 use Rattle.machine.specs.Place.{called_at}
-use Rattle.machine.specs.Acted.{picked, given_unless, taken_unless, Acted, acted, acted_of}
+use Rattle.machine.specs.Acted.{picked, given_unless, taken_unless, acted_of}
 use Rattle.machine.specs.Reach.{Reach}
 use Rattle.machine.specs.Known.{lent_are, reaches, entry_for, known_step_refusal, step_core_of, known_give_refusal, give_core_of, granted_at, stepped_at, known_word_refusal, poke_word_of, show_word_of, AsTheRules, KnownCallsAreTheRules}
 use Rattle.machine.proofs.Acting.{own_pick, give_put, step_put}

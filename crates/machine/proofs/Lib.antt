@@ -3,6 +3,3 @@ pub mod Looking
 pub mod Acting
 pub mod Determined
 pub mod Knowing
-pub mod Many
-pub mod Standing
-mod Lending

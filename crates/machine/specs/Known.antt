@@ -1,5 +1,5 @@
 -- What the calls answer for a caller that knows its machine to be in its ranges and keeps it: they see the sizes and, for a give and a step, one core. None of this is a rule: of a machine in its ranges it is the rules' own give, step, poke and show, and 5 is given only of one that is not (`AsTheRules`).
-use Rattle.std.specs.Prelude.{◌≡◌, ℕ, ◌+◌, ◌%◌, Bool, true, false, not, ◌&&◌, List, length, ◌==◌, ◌≢◌, nat_le, nat_lt, slice_index, if◌then◌else◌}
+use Rattle.std.specs.Prelude.{◌≡◌, ℕ, ◌+◌, ◌%◌, Bool, true, not, ◌&&◌, List, length, ◌==◌, ◌≢◌, nat_le, nat_lt, slice_index, if◌then◌else◌}
 use Rattle.rules.specs.Entry.{entry_of}
 use Rattle.rules.specs.Word.{read_word, write_word}
 use Rattle.rules.specs.Kinds.{address_of, poke_core, poke_kind}
@@ -11,7 +11,6 @@ use Rattle.rules.specs.declared.answers.Answer.{Answer}
 use Rattle.rules.specs.declared.answers.Answer.TheVariants.{Refused, Poked, Word}
 use Rattle.rules.specs.declared.answers.Handed.TheVariants.{Nothing, One}
 use Rattle.rules.specs.declared.cores.Core.{Core}
-use Rattle.rules.specs.declared.cores.MicroStep.{MicroStep}
 use Rattle.rules.specs.declared.state.Machine.{Machine}
 use Rattle.rules.specs.declared.state.Called.{Called}
 use Rattle.machine.specs.Place.{called_at}

@@ -1,5 +1,4 @@
-// A give and a step on the machine where it stands, and by value above them. Each function is proved by a walk
-// of its code by hand.
+// A give and a step on the machine where it stands, and by value above them.
 ghost use Rattle.std.specs.Prelude.{◌≡◌, length};
 ghost use Rattle.rules.specs.Answers.{number_of};
 ghost use Rattle.rules.specs.Calls.{outcome, answered, give_refusal, give_of, step_refusal, step_of};
