@@ -1,6 +1,6 @@
 -- A bench reads out of a packed answer what was packed.
 -- Assumes nothing.
-use Prim.Native.Nat.{ℕ, ◌<◌, ◌+◌, ◌*◌, ◌%◌, ◌/◌}
+use Prim.Native.Nat.{ℕ, ◌<◌, ◌%◌, ◌/◌}
 use mathlib.Core.Path.{◌≡◌, refl}
 use native.Mathlib.Omega.{arith}
 use Rattle.rules.specs.declared.answers.Answer.TheVariants as answer

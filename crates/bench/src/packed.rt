@@ -148,6 +148,7 @@ pub(crate) fn sought_bytes(a: Sought) -> [u8; 16]
     }
 }
 
+#[tactic(auto, unfolding(crate::specs::Packed::asked_of))]
 fn asked_for(code: u8, a: u32, value: u32) -> Asked
     ensures { result ≡ asked_of code a value }
 {
