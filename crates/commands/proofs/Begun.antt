@@ -27,8 +27,8 @@ module _ (session : Session) (memory owners holders : List ℕ) (cores bytes ent
       if t then started cores (take bytes memory) (take entries owners) (take entries holders)
       else outcome (refused n (all_idle 0 0 0)) (take bytes memory) (take entries owners) (take entries holders)
 
-  startedBy : ℕ → Bool → After
-  startedBy n t = after_start session bytes entries memory owners holders (start_by n t)
+  started_by : ℕ → Bool → After
+  started_by n t = after_start session bytes entries memory owners holders (start_by n t)
 
   fits : Bool
   fits = new_fits bytes entries (length memory) (length owners) (length holders)
@@ -36,17 +36,17 @@ module _ (session : Session) (memory owners holders : List ℕ) (cores bytes ent
   refusal : ℕ
   refusal = start_refusal cores (length (take bytes memory)) (length (take entries owners)) (length (take entries holders))
 
-  newBy : Bool → After
-  newBy f = if f then startedBy refusal (eqb refusal 0) else after (refused_ran 4 session) memory owners holders
+  new_by : Bool → After
+  new_by f = if f then started_by refusal (eqb refusal 0) else after (refused_ran 4 session) memory owners holders
 
-  by_tests : new_of session memory owners holders cores bytes entries ≡ newBy fits
-  unfolding new_of start_of newBy fits refusal startedBy start_by
+  by_tests : new_of session memory owners holders cores bytes entries ≡ new_by fits
+  unfolding new_of start_of new_by fits refusal started_by start_by
   by_tests = refl
 
-  refused-keeps : (n : ℕ) (t : Bool) → eqb n 0 ≡ t → (number_of (startedBy n t).ran.answer ≡ 0 → ⊥) → Kept session memory owners holders (startedBy n t)
-  unfolding startedBy start_by
-  refused-keeps n true e h = absurd (h refl)
-  refused-keeps n false e h =
+  refused_keeps : (n : ℕ) (t : Bool) → eqb n 0 ≡ t → (number_of (started_by n t).ran.answer ≡ 0 → ⊥) → Kept session memory owners holders (started_by n t)
+  unfolding started_by start_by
+  refused_keeps n true e h = absurd (h refl)
+  refused_keeps n false e h =
       record {
         same_session = rw e;
         nothing_made = rw e;
@@ -55,15 +55,15 @@ module _ (session : Session) (memory owners holders : List ℕ) (cores bytes ent
         same_holders = take-append-drop entries holders;
       }
 
-  new-keeps : (f : Bool) → (number_of (newBy f).ran.answer ≡ 0 → ⊥) → Kept session memory owners holders (newBy f)
-  unfolding newBy
-  new-keeps true h = refused-keeps refusal (eqb refusal 0) refl h
-  new-keeps false h = record { same_session = refl; nothing_made = refl; same_memory = refl; same_owners = refl; same_holders = refl }
+  new_keeps : (f : Bool) → (number_of (new_by f).ran.answer ≡ 0 → ⊥) → Kept session memory owners holders (new_by f)
+  unfolding new_by
+  new_keeps true h = refused_keeps refusal (eqb refusal 0) refl h
+  new_keeps false h = record { same_session = refl; nothing_made = refl; same_memory = refl; same_owners = refl; same_holders = refl }
 
-  accepted-afresh : (n : ℕ) (t : Bool) → eqb n 0 ≡ t → fits ≡ true → number_of (startedBy n t).ran.answer ≡ 0 → Afresh memory owners holders cores bytes entries (startedBy n t)
-  unfolding startedBy start_by fits
-  accepted-afresh n false e f h = absurd (eqb-false n 0 e (rw e at h))
-  accepted-afresh n true e f h =
+  accepted_afresh : (n : ℕ) (t : Bool) → eqb n 0 ≡ t → fits ≡ true → number_of (started_by n t).ran.answer ≡ 0 → Afresh memory owners holders cores bytes entries (started_by n t)
+  unfolding started_by start_by fits
+  accepted_afresh n false e f h = absurd (eqb-false n 0 e (rw e at h))
+  accepted_afresh n true e f h =
       let k = and₂ (leb bytes 16384 && leb bytes (length memory)) (leb entries (length owners) && leb entries (length holders)) f in
       let tables = and₂ (leb entries (length owners)) (leb entries (length holders)) k.1 in
       let m = length-take-le bytes memory (leb-true bytes (length memory) (and₂ (leb bytes 16384) (leb bytes (length memory)) k.0).1) in
@@ -77,22 +77,22 @@ module _ (session : Session) (memory owners holders : List ℕ) (cores bytes ent
         new_holders = rw q;
       }
 
-  new-afresh : (f : Bool) → fits ≡ f → number_of (newBy f).ran.answer ≡ 0 → Afresh memory owners holders cores bytes entries (newBy f)
-  unfolding newBy
-  new-afresh true f h = accepted-afresh refusal (eqb refusal 0) refl f h
-  new-afresh false f h = absurd (omega (arith, h))
+  new_afresh : (f : Bool) → fits ≡ f → number_of (new_by f).ran.answer ≡ 0 → Afresh memory owners holders cores bytes entries (new_by f)
+  unfolding new_by
+  new_afresh true f h = accepted_afresh refusal (eqb refusal 0) refl f h
+  new_afresh false f h = absurd (omega (arith, h))
 
 pub refused_new_leaves : RefusedNewLeaves
 refused_new_leaves session memory owners holders cores bytes entries h =
     let e = by_tests session memory owners holders cores bytes entries in
     subst (λ (a : After). Kept session memory owners holders a) (sym e)
-    (new-keeps session memory owners holders cores bytes entries (fits session memory owners holders cores bytes entries) (λ z. h (ap (λ (a : After). number_of a.ran.answer) e ∙ z)))
+    (new_keeps session memory owners holders cores bytes entries (fits session memory owners holders cores bytes entries) (λ z. h (ap (λ (a : After). number_of a.ran.answer) e ∙ z)))
 
 pub accepted_new_starts_afresh : AcceptedNewStartsAfresh
 accepted_new_starts_afresh session memory owners holders cores bytes entries h =
     let e = by_tests session memory owners holders cores bytes entries in
     subst (λ (a : After). Afresh memory owners holders cores bytes entries a) (sym e)
-    (new-afresh session memory owners holders cores bytes entries (fits session memory owners holders cores bytes entries) refl (ap (λ (a : After). number_of a.ran.answer) (sym e) ∙ h))
+    (new_afresh session memory owners holders cores bytes entries (fits session memory owners holders cores bytes entries) refl (ap (λ (a : After). number_of a.ran.answer) (sym e) ∙ h))
 
 -- no machine stands
 before_begun : (session : Session) (memory owners holders : List ℕ) (c : Command) → stands session ≡ false → (c ≡ NotUnderstood → ⊥) → is_new c ≡ false

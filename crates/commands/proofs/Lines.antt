@@ -2,10 +2,9 @@
 -- Assumes nothing.
 use Rattle.std.proofs.Common.{if◌then◌else◌}
 use mathlib.Core.Path.{◌≡◌, refl, ap, ◌∙◌, sym}
-use mathlib.Core.Bool.{Bool, true, false, ◌&&◌, false≢true}
+use mathlib.Core.Bool.{Bool, true, false, false≢true}
 use mathlib.Core.List.{List, [], ◌∷◌}
-use Prim.Native.Nat.{ℕ, zero, suc, ◌+◌, ◌≤◌}
-use native.Mathlib.Numerals.{add-one}
+use Prim.Native.Nat.{ℕ, suc, ◌+◌, ◌≤◌}
 use native.Mathlib.Omega.{arith}
 use lib.ListN.{length, drop, length-drop}
 use lib.Seq.{drop-drop}
@@ -16,9 +15,7 @@ use Rattle.commands.specs.Grammar.{where_number, numbers_of, second_number, thir
 use Rattle.commands.specs.declared.decimal.Field.{Field}
 use Rattle.commands.specs.declared.decimal.Number.{Number}
 use Rattle.commands.specs.declared.decimal.Number.TheVariants as number
-use Rattle.commands.specs.declared.grammar.Numbers.{Numbers}
 use Rattle.commands.specs.declared.grammar.Numbers.TheVariants.{Wrong, One, Two, Three}
-use Rattle.commands.specs.declared.grammar.Command.{Command}
 use Rattle.commands.specs.declared.grammar.Command.TheVariants.{NotUnderstood, Step}
 use Rattle.commands.proofs.Fields.{after_field_lem}
 use Rattle.commands.proofs.Bools.{and₂}

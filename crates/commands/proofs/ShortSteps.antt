@@ -4,10 +4,10 @@ use Rattle.std.proofs.Common.{if◌then◌else◌}
 use mathlib.Core.Path.{◌≡◌, refl, sym, ap, ◌∙◌}
 use mathlib.Core.Bool.{Bool, true, false, not, ◌&&◌, false≢true}
 use mathlib.Core.List.{List, [], ◌∷◌, ◌++◌}
-use Prim.Native.Nat.{ℕ, suc, ◌+◌, ◌-◌, ◌≤◌, ◌<◌}
+use Prim.Native.Nat.{ℕ, ◌+◌, ◌-◌, ◌≤◌}
 use native.Mathlib.Omega.{arith}
 use lib.ListN.{length, get_or, drop}
-use lib.Dec.{leb, ltb, eqb}
+use lib.Dec.{leb, eqb}
 use borrow.Author.Tests.{eqb-true, leb-true, le-leb, le-ltb, not-false, not-true}
 use Rattle.rules.proofs.Bools.{and₂, and₃}
 use Rattle.commands.specs.Bytes.{begins}
@@ -17,7 +17,6 @@ use Rattle.commands.specs.Promises.{ShortStep, ShortSteps}
 use Rattle.commands.specs.Texts.{newline}
 use Rattle.commands.specs.declared.decimal.Number.{Number}
 use Rattle.commands.specs.declared.decimal.Number.TheVariants.{Wrong, Is}
-use Rattle.commands.specs.declared.grammar.Command.{Command}
 use Rattle.commands.specs.declared.grammar.Command.TheVariants.{Step}
 use Rattle.commands.proofs.ReadBack.{round_trip}
 

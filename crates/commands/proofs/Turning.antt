@@ -1,7 +1,7 @@
 -- A command on its one core is what the rules say that it does, of a machine in its ranges; and what a command leaves is in its ranges again.
 -- Assumes nothing.
 use Rattle.std.proofs.Common.{if◌then◌else◌}
-use mathlib.Core.Path.{◌≡◌, refl, sym, ap, ◌∙◌}
+use mathlib.Core.Path.{◌≡◌, refl, ap, ◌∙◌}
 use mathlib.Core.Bool.{Bool, true, false, true≢false, false≢true}
 use mathlib.Core.List.{List, ◌++◌}
 use Prim.Native.Nat.{ℕ, ◌%◌}
@@ -25,7 +25,7 @@ use Rattle.machine.specs.declared.place.Stepped.{Stepped}
 use Rattle.machine.proofs.Acting.{put_back}
 use Rattle.machine.proofs.Knowing.{known_calls}
 use Rattle.commands.specs.Effect.{After, after, refused_ran, ran_of, begun_by, started_ran, new_fits, after_start, new_of, usual_entries, stands, once_begun, give_line, after_step, step_line, after_poke, poke_line, show_line, run_command}
-use Rattle.commands.specs.Turns.{set_up, one_core, DidOutcome, did_outcome, give_turn, after_core, step_turn, after_word, poke_turn, show_turn, act_on, ran_by, put_by, Sound, Done, LinesAreDone}
+use Rattle.commands.specs.Turns.{set_up, one_core, DidOutcome, did_outcome, give_turn, after_core, step_turn, after_word, poke_turn, show_turn, act_on, ran_by, put_by, Sound, LinesAreDone}
 use Rattle.commands.specs.declared.grammar.Command.{Command}
 use Rattle.commands.specs.declared.grammar.Command.TheVariants.{NotUnderstood, New, NewWith, Give, Step, Poke, Show}
 use Rattle.commands.specs.declared.effect.Session.{Session}
@@ -69,27 +69,27 @@ module _ (session : Session) (st : stands session ≡ true) (ranges : in_ranges 
   rules = known_calls m ranges
 
   -- the machine with its own core in its place is the machine
-  own-core : (i : ℕ) → with_core m (i % 8) (picked m i) ≡ m
-  own-core i = put_back m (i % 8)
+  own_core : (i : ℕ) → with_core m (i % 8) (picked m i) ≡ m
+  own_core i = put_back m (i % 8)
 
-  give-line : (core : ℕ) (o : Operation) → ran_by session core (give_turn m.count m.bytes (picked m core) core o) ≡ give_line session core o
-  give-line core o = ap (ran_of session) (rules.give_is core o)
+  give_line_is : (core : ℕ) (o : Operation) → ran_by session core (give_turn m.count m.bytes (picked m core) core o) ≡ give_line session core o
+  give_line_is core o = ap (ran_of session) (rules.give_is core o)
 
-  step_line : (core : ℕ) → put_by session core (step_turn m.count m.bytes m.entries (picked m core) memory owners holders core) ≡ step_line session memory owners holders core
-  step_line core =
+  step_line_is : (core : ℕ) → put_by session core (step_turn m.count m.bytes m.entries (picked m core) memory owners holders core) ≡ step_line session memory owners holders core
+  step_line_is core =
       ap (after_step session memory owners holders) (rules.step_is core (take m.bytes memory) (take m.entries owners) (take m.entries holders))
 
   abbrev poking : GuestAddress → ℕ → DidOutcome
   poking a v = did_outcome (poke_turn m.bytes (picked m 0) memory a v).did (poke_turn m.bytes (picked m 0) memory a v).memory owners holders
 
-  poke-line : (a : GuestAddress) (v : ℕ) → put_by session 0 (poking a v) ≡ poke_line session memory owners holders a v
-  poke-line a v =
-      (λ i. after (record { answer = (poking a v).did.answer; made = (poking a v).did.made; session = record { begun = session.begun; machine = own-core 0 i } }) (poking a v).memory owners holders)
+  poke_line_is : (a : GuestAddress) (v : ℕ) → put_by session 0 (poking a v) ≡ poke_line session memory owners holders a v
+  poke_line_is a v =
+      (λ i. after (record { answer = (poking a v).did.answer; made = (poking a v).did.made; session = record { begun = session.begun; machine = own_core 0 i } }) (poking a v).memory owners holders)
       ∙ ap (after_poke session memory owners holders) (rules.poke_is (take m.bytes memory) a v)
 
-  show-line : (a : GuestAddress) → ran_by session 0 (show_turn m.bytes (picked m 0) memory a) ≡ show_line session memory a
-  show-line a =
-      (λ i. record { answer = (show_turn m.bytes (picked m 0) memory a).answer; made = (show_turn m.bytes (picked m 0) memory a).made; session = record { begun = session.begun; machine = own-core 0 i } })
+  show_line_is : (a : GuestAddress) → ran_by session 0 (show_turn m.bytes (picked m 0) memory a) ≡ show_line session memory a
+  show_line_is a =
+      (λ i. record { answer = (show_turn m.bytes (picked m 0) memory a).answer; made = (show_turn m.bytes (picked m 0) memory a).made; session = record { begun = session.begun; machine = own_core 0 i } })
       ∙ ap (ran_of session) (rules.show_is (take m.bytes memory) a)
 
   once : (done : After) → done ≡ once_begun session memory owners holders done
@@ -101,10 +101,10 @@ module _ (session : Session) (st : stands session ≡ true) (ranges : in_ranges 
   on_its_core NotUnderstood h = absurd (false≢true h)
   on_its_core (New cores b) h = absurd (false≢true h)
   on_its_core (NewWith cores b e) h = absurd (false≢true h)
-  on_its_core (Give core o) h = ap (λ (r : Ran). after r memory owners holders) (give-line core o) ∙ once (after (give_line session core o) memory owners holders)
-  on_its_core (Step core) h = step_line core ∙ once (step_line session memory owners holders core)
-  on_its_core (Poke a v) h = poke-line a v ∙ once (poke_line session memory owners holders a v)
-  on_its_core (Show a) h = ap (λ (r : Ran). after r memory owners holders) (show-line a) ∙ once (after (show_line session memory a) memory owners holders)
+  on_its_core (Give core o) h = ap (λ (r : Ran). after r memory owners holders) (give_line_is core o) ∙ once (after (give_line session core o) memory owners holders)
+  on_its_core (Step core) h = step_line_is core ∙ once (step_line session memory owners holders core)
+  on_its_core (Poke a v) h = poke_line_is a v ∙ once (poke_line session memory owners holders a v)
+  on_its_core (Show a) h = ap (λ (r : Ran). after r memory owners holders) (show_line_is a) ∙ once (after (show_line session memory a) memory owners holders)
 
 -- where no machine stands, or the command is for none
 module _ (session : Session) (memory owners holders : List ℕ) where
@@ -166,8 +166,8 @@ show_same m memory a = go (eqb (word_refusal m (length memory) a) 0) refl
     go false e = rw e
 
 module _ (session : Session) (sound : Sound session) (memory owners holders : List ℕ) where
-  once-sound : (d : After) → (in_ranges session.machine ≡ true → in_ranges d.ran.session.machine ≡ true) → Sound (once_begun session memory owners holders d).ran.session
-  once-sound d f = go (stands session) refl
+  once_sound : (d : After) → (in_ranges session.machine ≡ true → in_ranges d.ran.session.machine ≡ true) → Sound (once_begun session memory owners holders d).ran.session
+  once_sound d f = go (stands session) refl
     where
       go : (t : Bool) → stands session ≡ t → Sound (if t then d else after (refused_ran 10 session) memory owners holders).ran.session
       go true e = λ _. f (sound e)
@@ -180,9 +180,9 @@ module _ (session : Session) (sound : Sound session) (memory owners holders : Li
       go true e = λ _. f (eqb-true (number_of called.answer) 0 e)
       go false e = sound
 
-  new-sound : (cores bytes entries : ℕ) → Sound (new_of session memory owners holders cores bytes entries).ran.session
+  new_sound : (cores bytes entries : ℕ) → Sound (new_of session memory owners holders cores bytes entries).ran.session
   unfolding new_of
-  new-sound cores bytes entries = go (new_fits bytes entries (length memory) (length owners) (length holders))
+  new_sound cores bytes entries = go (new_fits bytes entries (length memory) (length owners) (length holders))
     where
       go : (t : Bool) → Sound (if t then after_start session bytes entries memory owners holders (start_of cores (take bytes memory) (take entries owners) (take entries holders)) else after (refused_ran 4 session) memory owners holders).ran.session
       go true = started_sound (start_of cores (take bytes memory) (take entries owners) (take entries holders)).called (λ a. (range_laws.start_sound cores (take bytes memory) (take entries owners) (take entries holders) a).ranges)
@@ -191,12 +191,12 @@ module _ (session : Session) (sound : Sound session) (memory owners holders : Li
   stays_sound : (command : Command) → Sound (run_command session memory owners holders command).ran.session
   unfolding run_command
   stays_sound NotUnderstood = sound
-  stays_sound (New cores bytes) = new-sound cores bytes usual_entries
-  stays_sound (NewWith cores bytes entries) = new-sound cores bytes entries
-  stays_sound (Give core o) = once-sound (after (give_line session core o) memory owners holders) (give_sound session.machine core o)
-  stays_sound (Step core) = once-sound (step_line session memory owners holders core) (step_sound session.machine (take session.machine.bytes memory) (take session.machine.entries owners) (take session.machine.entries holders) core)
-  stays_sound (Poke a v) = once-sound (poke_line session memory owners holders a v) (λ h. ap in_ranges (poke_same session.machine (take session.machine.bytes memory) a v) ∙ h)
-  stays_sound (Show a) = once-sound (after (show_line session memory a) memory owners holders) (λ h. ap in_ranges (show_same session.machine (take session.machine.bytes memory) a) ∙ h)
+  stays_sound (New cores bytes) = new_sound cores bytes usual_entries
+  stays_sound (NewWith cores bytes entries) = new_sound cores bytes entries
+  stays_sound (Give core o) = once_sound (after (give_line session core o) memory owners holders) (give_sound session.machine core o)
+  stays_sound (Step core) = once_sound (step_line session memory owners holders core) (step_sound session.machine (take session.machine.bytes memory) (take session.machine.entries owners) (take session.machine.entries holders) core)
+  stays_sound (Poke a v) = once_sound (poke_line session memory owners holders a v) (λ h. ap in_ranges (poke_same session.machine (take session.machine.bytes memory) a v) ∙ h)
+  stays_sound (Show a) = once_sound (after (show_line session memory a) memory owners holders) (λ h. ap in_ranges (show_same session.machine (take session.machine.bytes memory) a) ∙ h)
 
 pub lines_are_done : LinesAreDone
 lines_are_done session memory owners holders command sound =

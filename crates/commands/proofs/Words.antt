@@ -1,11 +1,10 @@
 -- A line's commands and operations by the words that it begins with.
 -- Assumes nothing.
-use Rattle.std.proofs.Common.{if◌then◌else◌}
-use mathlib.Core.Path.{◌≡◌, refl, ap, ◌∙◌, sym}
-use mathlib.Core.Bool.{Bool, true, false}
+use mathlib.Core.Path.{◌≡◌}
+use mathlib.Core.Bool.{true, false}
 use mathlib.Core.List.{List}
 use Prim.Native.Nat.{ℕ, ◌+◌}
-use lib.ListN.{length, drop}
+use lib.ListN.{drop}
 use lib.Seq.{drop-drop}
 use Rattle.rules.specs.declared.answers.Operation.TheVariants.{Load, Ll, Store, Sc}
 use Rattle.commands.specs.Bytes.{begins}
@@ -30,7 +29,6 @@ use Rattle.commands.specs.Grammar.{
   command_of,
 }
 use Rattle.commands.specs.declared.grammar.Numbers.{Numbers}
-use Rattle.commands.specs.declared.grammar.Command.{Command}
 use Rattle.commands.specs.declared.grammar.Command.TheVariants.{NotUnderstood, Give, Show, Poke}
 
 module _ (core : ℕ) (line : List ℕ) (from : ℕ) (n : Numbers) where

@@ -1,5 +1,5 @@
 -- Document 01, "Script program": "decimal numbers 0..4,294,967,295 without needless zeros".
-use Rattle.std.specs.Prelude.{ℕ, zero, suc, ◌+◌, ◌*◌, ◌-◌, ◌/◌, ◌%◌, Bool, true, false, not, ◌&&◌, List, [], ◌∷◌, length, get_or, drop, leb, ltb, eqb, if◌then◌else◌}
+use Rattle.std.specs.Prelude.{ℕ, zero, suc, ◌+◌, ◌*◌, ◌-◌, ◌/◌, ◌%◌, Bool, true, not, ◌&&◌, List, [], ◌∷◌, length, get_or, drop, leb, ltb, eqb, if◌then◌else◌}
 use Rattle.commands.specs.Bytes.{first_field, more_fields}
 use Rattle.commands.specs.declared.decimal.Number.{Number}
 use Rattle.commands.specs.declared.decimal.Number.TheVariants.{Wrong, Is}

@@ -1,5 +1,5 @@
 -- What a command does to the machine that the lines run on, and what it answers.
-use Rattle.std.specs.Prelude.{ℕ, Bool, true, false, not, ◌&&◌, List, ◌++◌, length, take, drop, leb, eqb, if◌then◌else◌}
+use Rattle.std.specs.Prelude.{ℕ, Bool, not, ◌&&◌, List, ◌++◌, length, take, drop, leb, eqb, if◌then◌else◌}
 use Rattle.rules.specs.Answers.{number_of}
 use Rattle.rules.specs.Calls.{Outcome, PokeOutcome, all_idle, start_of, give_of, step_of, poke_of, show_of}
 use Rattle.rules.specs.declared.answers.Operation.{Operation}

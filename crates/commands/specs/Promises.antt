@@ -1,4 +1,4 @@
--- What a line of script promises, beside what each call's contract says of it. The proofs are in proofs/Handed, ReadBack, ShortSteps, OneLine, Answers, Numbered and Begun, under these names: FirstBytesDecide is proved by first-bytes-decide.
+-- What a line of script promises, beside what each call's contract says of it. The proofs are in proofs/Handed, ReadBack, ShortSteps, OneLine, Answers, Numbered and Begun, under these names: FirstBytesDecide is proved by first_bytes_decide.
 use Rattle.std.specs.Prelude.{ℕ, ◌+◌, ◌≤◌, ◌<◌, ◌≡◌, Bool, true, false, List, [], ◌∷◌, ◌++◌, length, take, drop, replicate}
 use Rattle.rules.specs.Answers.{number_of, values_of}
 use Rattle.rules.specs.Calls.{all_idle}

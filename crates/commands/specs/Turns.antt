@@ -1,5 +1,5 @@
 -- How a command is done on a machine that is known to be in its ranges and stays with the caller: the one core that it may change goes in and comes back. None of this is a rule: on such a machine it is what `run_command` says (`LinesAreDone`).
-use Rattle.std.specs.Prelude.{◌≡◌, ℕ, ◌%◌, Bool, true, false, List, take}
+use Rattle.std.specs.Prelude.{◌≡◌, ℕ, ◌%◌, true, false, List, take}
 use Rattle.rules.specs.Ranges.{in_ranges}
 use Rattle.rules.specs.Calls.{with_core}
 use Rattle.rules.specs.declared.entry.GuestAddress.{GuestAddress}

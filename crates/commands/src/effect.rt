@@ -116,6 +116,7 @@ fn begin(
 
 // A command that is done with no machine, or makes one: `new`, a line that is not understood, and any other before
 // the first accepted `new`.
+#[tactic(auto, unfolding(crate::specs::Turns::set_up))]
 pub fn set_up(
     session: Session,
     memory: &mut [u8],

@@ -30,6 +30,7 @@ fn put_valued(word: &[u8], value: u32, out: &mut [u8], at: usize) -> usize
     put_decimal(value as u64, out, to)
 }
 
+#[tactic(auto, unfolding(crate::specs::Texts::words_of))]
 fn put_words(answer: Answer, out: &mut [u8], at: usize) -> usize
     requires { at + 15 ≤ length out.old }
     ensures out_after { out.new ≡ put_in (words_of answer) at out.old }

@@ -154,6 +154,7 @@ fn show_turn(bytes: usize, c: Core, memory: &[u8], address: GuestAddress) -> Did
 
 // What a command does that leaves the machine as it is but for the core c. Memory and the two tables are lent
 // whole; the machine uses their first bytes.
+#[tactic(auto, unfolding(crate::specs::Turns::act_on))]
 pub fn act(
     count: usize,
     bytes: usize,

@@ -1,0 +1,14 @@
+use native.Mathlib.Omega.{arith}
+use Rattle.commands.specs.Texts.{rest_of, digits_of}
+use Rattle.commands.proofs.Placed.{Put}
+use Rattle.commands.proofs.Numbered.{line_written}
+use Rattle.commands.proofs.text.answer_line.Goals as goal
+
+pub returns : goal.returns
+returns c = let a = c.args in
+    let number = c.put_line_number-to in
+    let rest = c.put_rest in
+    let n = number.ensures in
+    let r : Put (rest_of a.answer) number.result number.new.out rest.new.out rest.result = record { bytes = rest.ensures.out_after; ends = rest.ensures.value } in
+    let l = line_written (digits_of a.number a.line) a.answer a.at a.out.now _ _ _ _ (omega arith) (n.put_before, (n.value, n.upper_bound)) r rest.ensures.upper_bound in
+    record { text = l.0; end = l.1.0; fits = l.1.1 }
