@@ -25,7 +25,7 @@ const USAGE: &str = "usage:
 ";
 
 /// Where the proved program stands after a build.
-const PROGRAM: &str = concat!(env!("CARGO_MANIFEST_DIR"), "/../../target/bin/script");
+const PROGRAM: &str = concat!(env!("CARGO_MANIFEST_DIR"), "/../../crates/script/out/script");
 
 fn main() -> ExitCode {
     let arguments: Vec<String> = std::env::args().skip(1).collect();
