@@ -1,4 +1,4 @@
-// What the library exports, as bench/malthobre.h declares it.
+// The calls as bench/malthobre.h declares them; the crate `bench_c` exports them to C.
 ghost use Rattle.std.specs.Prelude.{◌≡◌};
 ghost use Rattle.bench.specs.Machines.{left, start_left, step_left, poke_left, start_call, give_call, step_call, poke_call, show_call};
 ghost use Rattle.bench.specs.Archives.{new_left, write_left, read_left, new_call, add_call, close_call, check_call, record_call, whole_call, sought_call};
@@ -7,8 +7,7 @@ use crate::{archives, machines, packed};
 use archive::Writer;
 use machine::Machine;
 
-#[unsafe(no_mangle)]
-pub extern "C" fn malthobre_start(
+pub fn malthobre_start(
     m: &mut Machine,
     count: usize,
     memory: &mut [u8],
@@ -22,14 +21,7 @@ pub extern "C" fn malthobre_start(
     s.answer
 }
 
-#[unsafe(no_mangle)]
-pub extern "C" fn malthobre_give(
-    m: &mut Machine,
-    core: usize,
-    operation: u8,
-    address: u32,
-    value: u32,
-) -> u64
+pub fn malthobre_give(m: &mut Machine, core: usize, operation: u8, address: u32, value: u32) -> u64
     ensures { left result m.new ≡ give_call m.old core operation address value }
 {
     let asking = packed::asking_for(operation, address, value);
@@ -37,8 +29,7 @@ pub extern "C" fn malthobre_give(
     packed::given(asking.known, answer)
 }
 
-#[unsafe(no_mangle)]
-pub extern "C" fn malthobre_step(
+pub fn malthobre_step(
     m: &mut Machine,
     memory: &mut [u8],
     owners: &mut [u8],
@@ -52,8 +43,7 @@ pub extern "C" fn malthobre_step(
     machines::told(s, made)
 }
 
-#[unsafe(no_mangle)]
-pub extern "C" fn malthobre_poke(
+pub fn malthobre_poke(
     m: &mut Machine,
     memory: &mut [u8],
     address: u32,
@@ -67,8 +57,7 @@ pub extern "C" fn malthobre_poke(
     s.answer
 }
 
-#[unsafe(no_mangle)]
-pub extern "C" fn malthobre_show(m: &mut Machine, memory: &[u8], address: u32) -> u64
+pub fn malthobre_show(m: &mut Machine, memory: &[u8], address: u32) -> u64
     ensures { left result m.new ≡ show_call m.old memory.now address }
 {
     let s = machines::show(*m, memory, address);
@@ -76,8 +65,7 @@ pub extern "C" fn malthobre_show(m: &mut Machine, memory: &[u8], address: u32) -
     s.answer
 }
 
-#[unsafe(no_mangle)]
-pub extern "C" fn malthobre_writer_new(w: &mut Writer) -> u64
+pub fn malthobre_writer_new(w: &mut Writer) -> u64
     ensures { new_left result w.new ≡ new_call }
 {
     let s = archives::new();
@@ -85,8 +73,7 @@ pub extern "C" fn malthobre_writer_new(w: &mut Writer) -> u64
     s.answer
 }
 
-#[unsafe(no_mangle)]
-pub extern "C" fn malthobre_writer_add(w: &mut Writer, block: &mut [u8], made: &[u8; 16]) -> u64
+pub fn malthobre_writer_add(w: &mut Writer, block: &mut [u8], made: &[u8; 16]) -> u64
     ensures { write_left result w.new block.new ≡ add_call w.old block.old made.now }
 {
     let s = archives::add(*w, block, made);
@@ -94,8 +81,7 @@ pub extern "C" fn malthobre_writer_add(w: &mut Writer, block: &mut [u8], made: &
     s.answer
 }
 
-#[unsafe(no_mangle)]
-pub extern "C" fn malthobre_writer_close(w: &mut Writer, block: &mut [u8]) -> u64
+pub fn malthobre_writer_close(w: &mut Writer, block: &mut [u8]) -> u64
     ensures { write_left result w.new block.new ≡ close_call w.old block.old }
 {
     let s = archives::close(*w, block);
@@ -103,15 +89,13 @@ pub extern "C" fn malthobre_writer_close(w: &mut Writer, block: &mut [u8]) -> u6
     s.answer
 }
 
-#[unsafe(no_mangle)]
-pub extern "C" fn malthobre_block_check(block: &[u8], expected: u32, short: bool) -> u64
+pub fn malthobre_block_check(block: &[u8], expected: u32, short: bool) -> u64
     ensures { result ≡ check_call block.now expected short }
 {
     packed::checked(archive::check_block(block, expected, short))
 }
 
-#[unsafe(no_mangle)]
-pub extern "C" fn malthobre_block_record(
+pub fn malthobre_block_record(
     block: &[u8],
     expected: u32,
     short: bool,
@@ -125,15 +109,13 @@ pub extern "C" fn malthobre_block_record(
     packed::read(found)
 }
 
-#[unsafe(no_mangle)]
-pub extern "C" fn malthobre_archive_check(bytes: &[u8]) -> u64
+pub fn malthobre_archive_check(bytes: &[u8]) -> u64
     ensures { result ≡ whole_call bytes.now }
 {
     packed::whole(archive::check_archive(bytes))
 }
 
-#[unsafe(no_mangle)]
-pub extern "C" fn malthobre_archive_record(bytes: &[u8], number: u32, made: &mut [u8; 16]) -> u64
+pub fn malthobre_archive_record(bytes: &[u8], number: u32, made: &mut [u8; 16]) -> u64
     ensures { read_left result made.new ≡ sought_call bytes.now number }
 {
     let found = archive::record_of_number(bytes, number);
