@@ -1,3 +1,4 @@
+#![tactic(auto)]
 // Writes an archive of a hundred records, reads it back, damages each of its bytes and prints what
 // every call answers. tests/archive/expected.py works the same lines out from the rules.
 mod damage;
@@ -5,15 +6,17 @@ mod read;
 mod say;
 mod write;
 
+use std::io;
+
 fn zeros() -> [u8; 2048] {
     [0; 2048]
 }
 
-fn main() {
+fn main(rt: HostRuntime) -> io::Result<()> {
     let mut archive = zeros();
-    write::run(&mut archive);
-    write::invented();
-    read::blocks(&archive);
-    read::wholes(&archive);
-    damage::each_byte(&mut archive);
+    write::run(&rt, &mut archive)?;
+    write::invented(&rt)?;
+    read::blocks(&rt, &archive)?;
+    read::wholes(&rt, &archive)?;
+    damage::each_byte(&rt, &mut archive)
 }

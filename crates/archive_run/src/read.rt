@@ -2,10 +2,10 @@
 ghost use Rattle.std.specs.Prelude.{◌<◌, length, ◌≡◌};
 
 use crate::say;
-use libc::STDOUT_FILENO;
+use std::io;
 
 // The records of a block, in turn, and past the last. 32 are asked for.
-fn block(archive: &[u8], number: u32)
+fn block(rt: &HostRuntime, archive: &[u8], number: u32) -> io::Result<()>
     requires archive_len { length archive.now ≡ 2048 }
     requires number_bound { number < 4 }
 {
@@ -13,64 +13,65 @@ fn block(archive: &[u8], number: u32)
     let mut place = 0;
     let mut asked: usize = 0;
     while asked < 32 {
-        io::write_all(STDOUT_FILENO, b"place");
+        rt.write_all(b"place")?;
         let turn = archive::turn_through(&archive[at..at + 512], place, number, false);
         let read = turn.read;
-        say::read(read);
-        say::end();
+        say::read(rt, read)?;
+        say::end(rt)?;
         place = turn.place;
         asked += 1;
     }
+    Ok(())
 }
 
-fn check(block: &[u8], expected: u32, short: bool) {
-    io::write_all(STDOUT_FILENO, b"check");
-    say::checked(archive::check_block(block, expected, short));
-    say::end();
+fn check(rt: &HostRuntime, block: &[u8], expected: u32, short: bool) -> io::Result<()> {
+    rt.write_all(b"check")?;
+    say::checked(rt, archive::check_block(block, expected, short))?;
+    say::end(rt)
 }
 
-pub(crate) fn blocks(archive: &[u8])
+pub(crate) fn blocks(rt: &HostRuntime, archive: &[u8]) -> io::Result<()>
     requires { length archive.now ≡ 2048 }
 {
-    block(archive, 0);
-    block(archive, 1);
-    block(archive, 2);
-    block(archive, 3);
-    check(&archive[0..512], 0, false);
-    check(&archive[0..512], 0, true);
-    check(&archive[0..512], 1, false);
-    check(&archive[0..512], 1, true);
-    check(&archive[0..512], 1048576, false);
-    check(&archive[0..511], 0, false);
-    check(&archive[1..513], 0, false);
+    block(rt, archive, 0)?;
+    block(rt, archive, 1)?;
+    block(rt, archive, 2)?;
+    block(rt, archive, 3)?;
+    check(rt, &archive[0..512], 0, false)?;
+    check(rt, &archive[0..512], 0, true)?;
+    check(rt, &archive[0..512], 1, false)?;
+    check(rt, &archive[0..512], 1, true)?;
+    check(rt, &archive[0..512], 1048576, false)?;
+    check(rt, &archive[0..511], 0, false)?;
+    check(rt, &archive[1..513], 0, false)
 }
 
-fn whole(archive: &[u8]) {
-    io::write_all(STDOUT_FILENO, b"whole");
-    say::whole(archive::check_archive(archive));
-    say::end();
+fn whole(rt: &HostRuntime, archive: &[u8]) -> io::Result<()> {
+    rt.write_all(b"whole")?;
+    say::whole(rt, archive::check_archive(archive))?;
+    say::end(rt)
 }
 
-fn sought(archive: &[u8], number: u32) {
-    io::write_all(STDOUT_FILENO, b"record");
-    say::sought(archive::record_of_number(archive, number));
-    say::end();
+fn sought(rt: &HostRuntime, archive: &[u8], number: u32) -> io::Result<()> {
+    rt.write_all(b"record")?;
+    say::sought(rt, archive::record_of_number(archive, number))?;
+    say::end(rt)
 }
 
-pub(crate) fn wholes(archive: &[u8])
+pub(crate) fn wholes(rt: &HostRuntime, archive: &[u8]) -> io::Result<()>
     requires { length archive.now ≡ 2048 }
 {
-    whole(archive);
-    whole(&archive[0..0]);
-    whole(&archive[0..1536]);
-    whole(&archive[0..2047]);
-    whole(&archive[512..2048]);
-    sought(archive, 0);
-    sought(archive, 30);
-    sought(archive, 31);
-    sought(archive, 99);
-    sought(archive, 100);
-    sought(archive, 4294967295);
-    sought(&archive[0..2047], 0);
-    sought(&archive[512..2048], 0);
+    whole(rt, archive)?;
+    whole(rt, &archive[0..0])?;
+    whole(rt, &archive[0..1536])?;
+    whole(rt, &archive[0..2047])?;
+    whole(rt, &archive[512..2048])?;
+    sought(rt, archive, 0)?;
+    sought(rt, archive, 30)?;
+    sought(rt, archive, 31)?;
+    sought(rt, archive, 99)?;
+    sought(rt, archive, 100)?;
+    sought(rt, archive, 4294967295)?;
+    sought(rt, &archive[0..2047], 0)?;
+    sought(rt, &archive[512..2048], 0)
 }

@@ -14,7 +14,6 @@ use lib.Dec.{eqb, leb}
 use borrow.Author.Tests.{eq-eqb, ne_eqb, leb-true, leb-false}
 use Rattle.commands.specs.Grammar.{step_word, command_of}
 use Rattle.commands.specs.Promises.{ShortStep}
-use Rattle.commands.specs.declared.grammar.Command.{Command}
 use Rattle.commands.specs.declared.grammar.Command.TheVariants.{Step}
 use Rattle.script.specs.Lines.{first_line, whole_from, whole_lines, left_from, unfinished, handed, handed_on, between}
 use Rattle.script.specs.Answering.{lines_in}

@@ -1,12 +1,12 @@
 -- A line is done on its one core, or it sets up: either way that is what the line does, and what it leaves is sound again.
 -- Assumes nothing.
 use mathlib.Core.Path.{◌≡◌, refl, sym, ap, ◌∙◌, subst}
-use mathlib.Core.Bool.{Bool, true, false, not, ◌&&◌, true≢false, false≢true}
+use mathlib.Core.Bool.{Bool, true, false, not, ◌&&◌, true≢false}
 use mathlib.Core.List.{List}
 use Prim.Native.Nat.{ℕ, ◌+◌, ◌%◌, ◌≤◌}
 use native.Mathlib.Omega.{arith}
 use lib.ListN.{length}
-use lib.Dec.{leb, eqb}
+use lib.Dec.{eqb}
 use borrow.Author.Tests.{leb-true}
 use Rattle.rules.specs.Ranges.{core_at}
 use Rattle.rules.specs.Calls.{with_core}
@@ -15,7 +15,7 @@ use Rattle.rules.specs.declared.answers.Handed.{Handed}
 use Rattle.rules.specs.declared.state.Machine.{Machine}
 use Rattle.rules.proofs.Bools.{and₂}
 use Rattle.commands.specs.Effect.{After, after, run_command}
-use Rattle.commands.specs.Turns.{set_up, one_core, did_outcome, DidOutcome, act_on, put_by, Sound, Done}
+use Rattle.commands.specs.Turns.{set_up, one_core, did_outcome, act_on, put_by, Sound, Done}
 use Rattle.commands.specs.declared.grammar.Command.{Command}
 use Rattle.commands.specs.declared.effect.Session.{Session}
 use Rattle.commands.specs.declared.effect.Ran.{Ran}

@@ -2,8 +2,7 @@
 ghost use Rattle.std.specs.Prelude.{◌≡◌, false, ◌-◌, ◌≤◌, length};
 ghost use Rattle.script.specs.Puts.{put_text, put_end};
 
-use crate::cut;
-use libc::STDOUT_FILENO;
+use crate::{cut, failure};
 
 // Puts a text in at a place, as far as there is room, and answers where it ends.
 pub(crate) fn put(text: &[u8], out: &mut [u8], at: usize) -> usize
@@ -22,19 +21,21 @@ pub(crate) fn put(text: &[u8], out: &mut [u8], at: usize) -> usize
 }
 
 // Writes the first bytes out. Where they cannot be written that is said, and the answer is false.
-pub(crate) fn write_out(out: &[u8], at: usize) -> bool
+pub(crate) fn write_out(rt: &HostRuntime, out: &[u8], at: usize) -> bool
     requires { at ≤ length out.now }
 {
-    let written = io::write_all(STDOUT_FILENO, &out[..at]);
-    if !written {
-        os::fail(b"standard output");
+    match rt.write_all(&out[..at]) {
+        Ok(()) => true,
+        Err(error) => {
+            failure::fail(rt, b"standard output", error);
+            false
+        }
     }
-    written
 }
 
 // The output's buffer after room was asked for: where the next text goes, whether what stood there
 // was written out for it, and whether the output can still be written.
-#[derive(Drop)]
+#[derive(Clone, Copy)]
 pub struct Room {
     pub at: usize,
     pub emptied: bool,
@@ -42,7 +43,7 @@ pub struct Room {
 }
 
 // Writes the first bytes out if there is less room than is needed after them.
-pub(crate) fn make_room(out: &[u8], at: usize, needed: usize) -> Room
+pub(crate) fn make_room(rt: &HostRuntime, out: &[u8], at: usize, needed: usize) -> Room
     requires { at ≤ length out.now }
     ensures within { result.at ≤ length out.now }
     ensures room { result.emptied ≡ false → needed ≤ length out.now - at }
@@ -54,7 +55,7 @@ pub(crate) fn make_room(out: &[u8], at: usize, needed: usize) -> Room
             good: true,
         };
     }
-    let good = write_out(out, at);
+    let good = write_out(rt, out, at);
     Room {
         at: 0,
         emptied: true,

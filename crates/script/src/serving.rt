@@ -7,9 +7,9 @@ ghost use Rattle.script.specs.Answering.{last_number, is_event, lines_in};
 use crate::answering::Place;
 use crate::archive_file::Archives;
 use crate::output::Room;
-use crate::{answering, archive_file, cut, output};
+use crate::{answering, archive_file, buffers, cut, failure, output};
 use commands::Session;
-use libc::STDIN_FILENO;
+use std::io::Read;
 
 // What is carried from piece to piece: `held` bytes of an unfinished line stand at the front of the
 // input's buffer. The session is sound from the first line on, so no piece looks at its machine.
@@ -89,6 +89,7 @@ fn stopped_at(place: Place, archives: Archives, room: Room) -> Answering
 // event goes to the archive.
 fn answer_some(
     a: Answering,
+    rt: &HostRuntime,
     watch: bool,
     path: &[u8],
     memory: &mut [u8],
@@ -110,15 +111,16 @@ fn answer_some(
         watch, session, a.answered, memory, owners, holders, input, from, end, out, a.at,
     );
     let event = place.event;
-    let archives = archive_file::follow(a.archives, path, event);
+    let archives = archive_file::follow(rt, a.archives, path, event);
     let at = place.at;
-    let room = output::make_room(out, at, answering::ANSWER_ROOM);
+    let room = output::make_room(rt, out, at, answering::ANSWER_ROOM);
     stopped_at(place, archives, room)
 }
 
 // Answers all whole lines of the input's bytes, and writes the answers out.
 fn answer_all(
     s: Serving,
+    rt: &HostRuntime,
     watch: bool,
     path: &[u8],
     memory: &mut [u8],
@@ -146,17 +148,18 @@ fn answer_all(
     };
     let mut turns = u64::MAX;
     while turns > 0 && a.busy {
-        a = answer_some(a, watch, path, memory, owners, holders, input, end, out);
+        a = answer_some(a, rt, watch, path, memory, owners, holders, input, end, out);
         turns -= 1;
     }
     let at = a.at;
-    a.goes_on = output::write_out(out, at) & a.goes_on;
+    a.goes_on = output::write_out(rt, out, at) & a.goes_on;
     a
 }
 
 // Answers the whole lines of a piece that was read, and keeps what is left.
 fn serve_piece(
     s: Serving,
+    rt: &HostRuntime,
     watch: bool,
     path: &[u8],
     memory: &mut [u8],
@@ -171,7 +174,7 @@ fn serve_piece(
     ensures held_bound { result.held ≤ 81 }
     ensures sound_2 { Sound result.session }
 {
-    let a = answer_all(s, watch, path, memory, owners, holders, input, end, out);
+    let a = answer_all(s, rt, watch, path, memory, owners, holders, input, end, out);
     let from = a.from;
     let held = cut::keep(input, from, end);
     let session = a.session;
@@ -188,6 +191,7 @@ fn serve_piece(
 // The end of the input: a last line without a newline counts if it has any byte.
 fn serve_last(
     s: Serving,
+    rt: &HostRuntime,
     watch: bool,
     path: &[u8],
     memory: &mut [u8],
@@ -208,6 +212,7 @@ fn serve_last(
     input[held] = 10;
     let last = serve_piece(
         s,
+        rt,
         watch,
         path,
         memory,
@@ -221,28 +226,36 @@ fn serve_last(
 }
 
 // What a read put into the buffer: how many bytes, none at the end of the input.
-#[derive(Drop)]
+#[derive(Clone, Copy)]
 pub struct Piece {
     pub count: usize,
     pub failed: bool,
 }
 
 // Reads into the buffer, after the bytes that are held.
-fn read_piece(input: &mut [u8], held: usize) -> Piece
+fn read_piece(rt: &HostRuntime, input: &mut [u8], held: usize) -> Piece
     requires { held ≤ length input.old }
     ensures { held + result.count ≤ length input.old }
 {
-    let got = libc::read(STDIN_FILENO, &mut input[held..]);
-    let count = io::count(got, &input[held..]);
-    Piece {
-        count,
-        failed: got < 0,
+    match rt.stdin().read(&mut input[held..]) {
+        Ok(count) => Piece {
+            count,
+            failed: false,
+        },
+        Err(error) => {
+            failure::fail(rt, b"standard input", error);
+            Piece {
+                count: 0,
+                failed: true,
+            }
+        }
     }
 }
 
 // Reads a piece and answers its lines.
 fn serve_some(
     s: Serving,
+    rt: &HostRuntime,
     watch: bool,
     path: &[u8],
     memory: &mut [u8],
@@ -257,17 +270,17 @@ fn serve_some(
     ensures sound_2 { Sound result.session }
 {
     let held = s.held;
-    let piece = read_piece(input, held);
+    let piece = read_piece(rt, input, held);
     if piece.failed {
-        os::fail(b"standard input");
         return s.ended();
     }
     let n = piece.count;
     if n == 0 {
-        return serve_last(s, watch, path, memory, owners, holders, input, out);
+        return serve_last(s, rt, watch, path, memory, owners, holders, input, out);
     }
     serve_piece(
         s,
+        rt,
         watch,
         path,
         memory,
@@ -281,6 +294,7 @@ fn serve_some(
 
 // Answers the script on standard input to its end.
 fn serve_all(
+    rt: &HostRuntime,
     watch: bool,
     path: &[u8],
     memory: &mut [u8],
@@ -302,20 +316,21 @@ fn serve_all(
     };
     let mut turns = u64::MAX;
     while turns > 0 && s.goes_on {
-        s = serve_some(s, watch, path, memory, owners, holders, input, out);
+        s = serve_some(s, rt, watch, path, memory, owners, holders, input, out);
         turns -= 1;
     }
     let archives = s.archives;
-    archive_file::end(archives, path);
+    archive_file::end(rt, archives, path);
 }
 
-pub(crate) fn serve(watch: bool, path: &[u8]) {
+pub(crate) fn serve(rt: &HostRuntime, watch: bool, path: &[u8]) {
     let mut memory = memory_bytes();
-    let mut owners = io::buffer();
-    let mut holders = io::buffer();
+    let mut owners = buffers::buffer();
+    let mut holders = buffers::buffer();
     let mut input = input_bytes();
-    let mut out = io::large_buffer();
+    let mut out = buffers::large_buffer();
     serve_all(
+        rt,
         watch,
         path,
         &mut memory,

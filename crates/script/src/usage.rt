@@ -1,17 +1,17 @@
 // What is said to whoever starts the program with other arguments.
-use libc::STDERR_FILENO;
+use crate::failure;
 
-pub(crate) fn say() {
-    io::write_all(
-        STDERR_FILENO,
+pub(crate) fn say(rt: &HostRuntime) {
+    failure::say(
+        rt,
         b"usage: script                the script on standard input, an answer a line\n",
     );
-    io::write_all(
-        STDERR_FILENO,
+    failure::say(
+        rt,
         b"       script archive FILE   the same, and the run goes into the new archive FILE\n",
     );
-    io::write_all(
-        STDERR_FILENO,
+    failure::say(
+        rt,
         b"       script records FILE   the records of the archive FILE, a line each\n",
     );
 }
