@@ -13,7 +13,8 @@ import re
 import sys
 
 # Where the plain spelling would be that of a definition that the field or lemma stands beside.
-CHOSEN = {"line-number": "number_first", "most-records": "few_records", "set-up": "is_set_up", "no_record": "no_record"}
+CHOSEN = {"line-number": "number_first", "most-records": "few_records", "set-up": "is_set_up", "no_record": "no_record",
+          "no-link": "no_link"}
 STD_WORDS = {"length", "take", "drop", "append", "reverse", "sum", "set", "replicate", "cons", "map", "slice_set", "slice_index"}
 WORD = r"[A-Za-z0-9_'₀-₉◌-]"
 
@@ -44,7 +45,12 @@ def declared():
     for p in files((".antt",)):
         if not is_shared(p):
             continue
+        in_data = False
         for line in read(p).split("\n"):
+            in_data = bool(re.match(r"(?:pub )?data .* where$", line)) or (in_data and line.startswith(" "))
+            m = re.match(r"\s+([a-z]%s*) : " % WORD, line) if in_data else None
+            if m:
+                lemmas.setdefault(m.group(1), p)
             m = re.match(r"((?:(?:pub|abbrev|unfoldable|record|data|ruleset)\s+)*)(%s+)(?:\s+\(|\s*:| where)" % WORD, line)
             if m and not line.startswith(("use", "mod", "pub mod", "infix", "unfolding", "--")):
                 (functions if "abbrev" in m.group(1) or "unfoldable" in m.group(1) else lemmas).setdefault(m.group(2), p)
@@ -96,6 +102,22 @@ def turned(path, text, table):
     return "\n".join(lines)
 
 
+def locals_turned(path, text):
+    """A file of lemmas with the names that it keeps to itself turned: what stands in a 'module _' block or below a 'where'."""
+    if not is_shared(path):
+        return text
+    code = "\n".join(l for l in text.split("\n") if not l.lstrip().startswith("--"))
+    words = set(re.findall(r"(?<![\w'◌₀-₉-])[a-z]%s*" % WORD, code))
+    own = set(re.findall(r"^\s+(?:abbrev |unfoldable )*([a-z]%s*-%s*)(?: \(.*\))? : " % (WORD, WORD), code, re.M)) - foreign(text)
+    table = {n: respelled(n, set()) for n in own}
+    for old, new in sorted(table.items()):
+        if new in words:
+            print(f"falls together in {path}: {old} -> {new}")
+    table = {old: new for old, new in table.items() if new not in words}
+    at = re.compile(r"(?<![\w'◌₀-₉-])([a-z]%s*)(?![\w'◌₀-₉-])" % WORD)
+    return "\n".join(l if l.lstrip().startswith("--") else at.sub(lambda m: table.get(m.group(1), m.group(1)), l) for l in text.split("\n"))
+
+
 def main():
     functions, lemmas = declared()
     known = {snake(n) for n in functions}
@@ -116,7 +138,7 @@ def main():
         return
     for p in files((".antt", ".rt", ".edit", ".md")):
         text = read(p)
-        new = turned(p, text, table)
+        new = locals_turned(p, turned(p, text, table))
         if new != text:
             with open(p, "w", encoding="utf-8") as f:
                 f.write(new)

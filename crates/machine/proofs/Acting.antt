@@ -46,9 +46,9 @@ module _ (m : Machine) (core : ℕ) (o : Operation) where
   abbrev gave : ℕ → Called
   gave i = answered (taken_unless (give_refusal m core o)) (with_core m i (given_unless (give_refusal m core o) (core_at m i) o))
 
-  give-acted : gave (core % 8) ≡ give_of m core o
+  give_acted : gave (core % 8) ≡ give_of m core o
   unfolding give_of
-  give-acted = go (eqb (give_refusal m core o) 0) refl
+  give_acted = go (eqb (give_refusal m core o) 0) refl
     where
       go : (t : Bool) → eqb (give_refusal m core o) 0 ≡ t → gave (core % 8) ≡ give_of m core o
       go true e =
@@ -63,9 +63,9 @@ module _ (m : Machine) (memory owners holders : List ℕ) (core : ℕ) where
   abbrev refusal : ℕ
   refusal = step_refusal m (length memory) owners holders core
 
-  step-acted : left (turned_of m (picked m core) memory owners holders core) ≡ step_of m memory owners holders core
+  step_acted : left (turned_of m (picked m core) memory owners holders core) ≡ step_of m memory owners holders core
   unfolding step_of stepped micro_step_at acted_of
-  step-acted = go (eqb refusal 0) refl
+  step_acted = go (eqb refusal 0) refl
     where
       go : (t : Bool) → eqb refusal 0 ≡ t → left (turned_of m (picked m core) memory owners holders core) ≡ step_of m memory owners holders core
       go true e =
@@ -88,10 +88,10 @@ module _ (m : Machine) (memory owners holders : List ℕ) (core : ℕ) where
 -- the machine in which what a give makes of its core is put in its place is the one that the give leaves
 pub give_put : (m : Machine) (core : ℕ) (o : Operation) (c : Core) (a : Answer) → c ≡ given_unless (give_refusal m core o) (picked m core) o → a ≡ taken_unless (give_refusal m core o)
     → answered a (with_core m (core % 8) c) ≡ give_of m core o
-give_put m core o c a pc pa = (λ i. answered (pa i) (with_core m (core % 8) (pc i))) ∙ give-acted m core o
+give_put m core o c a pc pa = (λ i. answered (pa i) (with_core m (core % 8) (pc i))) ∙ give_acted m core o
 
 -- and the one in which what a turn makes of its core is put there is the one that the step leaves
 pub step_put : (m : Machine) (memory owners holders memory' owners' holders' : List ℕ) (core : ℕ) (s : MicroStep) → acted s memory' owners' holders' ≡ turned_of m (picked m core) memory owners holders core
     → outcome (record { answer = s.answer; made = s.made; machine = with_core m (core % 8) s.core }) memory' owners' holders' ≡ step_of m memory owners holders core
 step_put m memory owners holders memory' owners' holders' core s p =
-    ap (left m memory owners holders core) p ∙ step-acted m memory owners holders core
+    ap (left m memory owners holders core) p ∙ step_acted m memory owners holders core

@@ -72,8 +72,8 @@ word_reached bytes memory a h = go (eqb memory bytes) refl (eqb (address_refusal
 
 module _ (m : Machine) (ranges : in_ranges m ≡ true) where
   -- a busy core reaches what is there
-  busy-reaches : (core : ℕ) → core < m.count → (core_at m core).busy ≡ true → reaches m.bytes m.entries (core_at m core) (entry_for m.entries (core_at m core)) core ≡ true
-  busy-reaches core below busy =
+  busy_reaches : (core : ℕ) → core < m.count → (core_at m core).busy ≡ true → reaches m.bytes m.entries (core_at m core) (entry_for m.entries (core_at m core)) core ≡ true
+  busy_reaches core below busy =
       let s = sizes_fit_lem m ranges in
       let small = core_small m ranges below in
       let f = fits m.count m.bytes core (core_at m core) (core_fits_lem m ranges core small) in
@@ -81,9 +81,9 @@ module _ (m : Machine) (ranges : in_ranges m ≡ true) where
       let e = entry_below m.entries (core_at m core).address s.entries in
       rw (lt-ltb _ _ small, lt-ltb _ _ e, le-leb _ _ w)
 
-  give-same : (core : ℕ) (o : Operation) → known_give_refusal m.count m.bytes (picked m core) core o ≡ give_refusal m core o
+  give_same : (core : ℕ) (o : Operation) → known_give_refusal m.count m.bytes (picked m core) core o ≡ give_refusal m core o
   unfolding known_give_refusal give_refusal
-  give-same core o = go (leb m.count core) refl
+  give_same core o = go (leb m.count core) refl
     where
       go : (t : Bool) → leb m.count core ≡ t → known_give_refusal m.count m.bytes (picked m core) core o ≡ give_refusal m core o
       go true e = rw (ranges, e)
@@ -97,7 +97,7 @@ module _ (m : Machine) (ranges : in_ranges m ≡ true) where
           → known_step_refusal m.count m.bytes m.entries (picked m core) memory owners holders core ≡ step_refusal m memory owners holders core
       go true e b p = rw (ranges, e)
       go false e false p = rw (own_pick (core_small m ranges (leb-false _ _ e)), ranges, e, p)
-      go false e true p = rw (own_pick (core_small m ranges (leb-false _ _ e)), ranges, e, p, busy-reaches core (leb-false _ _ e) p)
+      go false e true p = rw (own_pick (core_small m ranges (leb-false _ _ e)), ranges, e, p, busy_reaches core (leb-false _ _ e) p)
 
   word_same : (memory : ℕ) (a : GuestAddress) → known_word_refusal m.bytes memory a ≡ word_refusal m memory a
   unfolding known_word_refusal word_refusal
@@ -113,7 +113,7 @@ module _ (m : Machine) (ranges : in_ranges m ≡ true) where
   give_is : (core : ℕ) (o : Operation) → granted_at m core (give_core_of m.count m.bytes (picked m core) core o) ≡ give_of m core o
   give_is core o =
       give_put m core o (give_core_of m.count m.bytes (picked m core) core o).core (give_core_of m.count m.bytes (picked m core) core o).answer
-      (ap (λ (n : ℕ). given_unless n (picked m core) o) (give-same core o)) (ap (λ (n : ℕ). taken_unless n) (give-same core o))
+      (ap (λ (n : ℕ). given_unless n (picked m core) o) (give_same core o)) (ap (λ (n : ℕ). taken_unless n) (give_same core o))
 
   step_is : (core : ℕ) (memory owners holders : List ℕ) → stepped_at m core (step_core_of m.count m.bytes m.entries (picked m core) memory owners holders core) ≡ step_of m memory owners holders core
   step_is core memory owners holders =
@@ -165,8 +165,8 @@ module _ (m : Machine) (ranges : in_ranges m ≡ true) where
       go true true false false e h = omega (arith, h)
       go true true false true e h = omega (arith, h)
 
-  as-the-rules : AsTheRules m
-  as-the-rules =
+  as_the_rules : AsTheRules m
+  as_the_rules =
       record {
         give_is = give_is;
         step_is = step_is;
@@ -177,4 +177,4 @@ module _ (m : Machine) (ranges : in_ranges m ≡ true) where
       }
 
 pub known_calls : KnownCallsAreTheRules
-known_calls m ranges = as-the-rules m ranges
+known_calls m ranges = as_the_rules m ranges

@@ -117,20 +117,20 @@ both_idle false y = refl
 
 -- both addresses of the core at a place, in use or 0 and inside, and that they are in use below the count alone
 module _ (count bytes i : ℕ) (h : bytes ≤ 65536) (e : bytes % 4 ≡ 0) (a k : ℕ) where
-  abbrev address-fits : Bool → ℕ → Bool
-  address-fits used a = (used || eqb a 0) && (not used || eqb (a % 4) 0 && ltb a bytes)
+  abbrev address_fits : Bool → ℕ → Bool
+  address_fits used a = (used || eqb a 0) && (not used || eqb (a % 4) 0 && ltb a bytes)
 
-  one-looks : (used : Bool) (a : ℕ) → ltb (word_at a) (room_of used (bytes / 4)) ≡ address-fits used a
-  one-looks true a = word_compares a bytes h e
-  one-looks false a = word_nowhere a ∙ sym (and-true (eqb a 0))
+  one_looks : (used : Bool) (a : ℕ) → ltb (word_at a) (room_of used (bytes / 4)) ≡ address_fits used a
+  one_looks true a = word_compares a bytes h e
+  one_looks false a = word_nowhere a ∙ sym (and-true (eqb a 0))
 
-  addresses-look : (busy linked : Bool) → (ltb (word_at a) (room_of busy (words_for count bytes i)) && ltb (word_at k) (room_of linked (words_for count bytes i))) ≡ (address-fits busy a && address-fits linked k) && (ltb i count || not (busy || linked))
-  addresses-look busy linked = go (ltb i count) busy linked
+  addresses_look : (busy linked : Bool) → (ltb (word_at a) (room_of busy (words_for count bytes i)) && ltb (word_at k) (room_of linked (words_for count bytes i))) ≡ (address_fits busy a && address_fits linked k) && (ltb i count || not (busy || linked))
+  addresses_look busy linked = go (ltb i count) busy linked
     where
-      go : (t busy linked : Bool) → (ltb (word_at a) (room_of busy (if t then words_of bytes else 0)) && ltb (word_at k) (room_of linked (if t then words_of bytes else 0))) ≡ (address-fits busy a && address-fits linked k) && (t || not (busy || linked))
-      go true busy linked = rw (le-leb bytes 65536 h, one-looks busy a, one-looks linked k) (sym (and-true (address-fits busy a && address-fits linked k)))
-      go false true linked = rw (none_below_0 (word_at a)) (sym (and_false (address-fits true a && address-fits linked k)))
-      go false false true = rw (none_below_0 (word_at k)) (and_false (ltb (word_at a) 1) ∙ sym (and_false (address-fits false a && address-fits true k)))
+      go : (t busy linked : Bool) → (ltb (word_at a) (room_of busy (if t then words_of bytes else 0)) && ltb (word_at k) (room_of linked (if t then words_of bytes else 0))) ≡ (address_fits busy a && address_fits linked k) && (t || not (busy || linked))
+      go true busy linked = rw (le-leb bytes 65536 h, one_looks busy a, one_looks linked k) (sym (and-true (address_fits busy a && address_fits linked k)))
+      go false true linked = rw (none_below_0 (word_at a)) (sym (and_false (address_fits true a && address_fits linked k)))
+      go false false true = rw (none_below_0 (word_at k)) (and_false (ltb (word_at a) 1) ∙ sym (and_false (address_fits false a && address_fits true k)))
       go false false false = rw (word_nowhere a, word_nowhere k) (both_idle (eqb a 0) (eqb k 0))
 
 -- The tests of the two sides, each side's in its own order. The look's: the stage's three, value and read, then of address and link where they can be. The
@@ -145,8 +145,8 @@ module _ (n s b v r a< k< : Bool) (o m u f v' r' a k aᵢ kᵢ p : Bool)
   abbrev asked : Bool
   asked = ((o && m && a) && (v' && r' && u) && k) && (f && (aᵢ && kᵢ) && p)
 
-  looks-asked : looks ≡ true → asked ≡ true
-  looks-asked h =
+  looks_asked : looks ≡ true → asked ≡ true
+  looks_asked h =
       let c = and₂ n (s && b && (v && r) && a< && k<) h in
       let d = and₃ (s && b && (v && r)) a< k< c.1 in
       let e = and₃ s b (v && r) d.0 in
@@ -159,8 +159,8 @@ module _ (n s b v r a< k< : Bool) (o m u f v' r' a k aᵢ kᵢ p : Bool)
       let li = and₂ k kᵢ q.1 in
       rw (w.0, w.1, ad.0, sym (uses st).0 ∙ z.0, sym (uses st).1 ∙ z.1, w.2, li.0, w.3, ad.1, li.1, g.1)
 
-  asked-looks : asked ≡ true → looks ≡ true
-  asked-looks h =
+  asked_looks : asked ≡ true → looks ≡ true
+  asked_looks h =
       let t = and₂ ((o && m && a) && (v' && r' && u) && k) (f && (aᵢ && kᵢ) && p) h in
       let c = and₃ (o && m && a) (v' && r' && u) k t.0 in
       let d = and₃ f (aᵢ && kᵢ) p t.1 in
@@ -173,35 +173,35 @@ module _ (n s b v r a< k< : Bool) (o m u f v' r' a k aᵢ kᵢ p : Bool)
       rw (w.0, w.1, w.2, (uses st).0 ∙ g.0, (uses st).1 ∙ g.1, q.0, q.1)
 
   in_order : looks ≡ asked
-  in_order = same looks asked looks-asked asked-looks
+  in_order = same looks asked looks_asked asked_looks
 
 -- one core
 module _ (count bytes i : ℕ) (c : Core) (h : bytes ≤ 65536) (e : bytes % 4 ≡ 0) where
   abbrev stage : ℕ
   stage = stage_of c.operation c.next
 
-  uses-alike : (leb c.next 7 && leb stage 63 && can_be_at c.busy c.passed stage) ≡ true
+  uses_alike : (leb c.next 7 && leb stage 63 && can_be_at c.busy c.passed stage) ≡ true
       → (eqb (spare (leb 25 stage) c.value) 0 ≡ value_used c.busy c.operation || eqb c.value 0) × (eqb (spare (eqb stage 20) c.read) 0 ≡ read_used c.busy c.operation c.next || eqb c.read 0)
-  uses-alike h =
+  uses_alike h =
       let t = and₃ (leb c.next 7) (leb stage 63) (can_be_at c.busy c.passed stage) h in
       let u = (staged c.busy c.passed c.operation c.next (leb-true c.next 7 t.0) (leb-true stage 63 t.1)).uses t.2 in
       (rw u.0 (spare_or (value_used c.busy c.operation) c.value), rw u.1 (spare_or (read_used c.busy c.operation c.next) c.read))
 
-  core-looks : core_looks_right (words_for count bytes i) c ≡ core_fits count bytes i c
+  core_looks : core_looks_right (words_for count bytes i) c ≡ core_fits count bytes i c
   unfolding core_looks_right looks_right_at spare_are0 core_fits
-  core-looks =
+  core_looks =
       let words = words_for count bytes i in
       in_order
       (leb c.next 7) (leb stage 63) (can_be_at c.busy c.passed stage) (eqb (spare (leb 25 stage) c.value) 0) (eqb (spare (eqb stage 20) c.read) 0)
       (ltb (word_at c.address.0) (room_of c.busy words)) (ltb (word_at c.link.0) (room_of c.linked words))
       (c.busy || eqb c.operation 0) (c.busy || eqb c.next 0) (uses_passed c || not c.passed) (operation_fits c) (in_use_or0 (uses_value c) c.value) (in_use_or0 (uses_read c) c.read)
       (in_use_or0 c.busy c.address.0) (link_fields c) (not c.busy || inside bytes c.address) (not c.linked || inside bytes c.link) (place_fits count i c)
-      (stage_looks c.busy c.passed c.operation c.next) uses-alike (addresses-look count bytes i h e c.address.0 c.link.0 c.busy c.linked)
+      (stage_looks c.busy c.passed c.operation c.next) uses_alike (addresses_look count bytes i h e c.address.0 c.link.0 c.busy c.linked)
 
 -- where the sizes fit, the look at a core asks what the ranges ask of it
 alike : (m : Machine) → sizes_fit m ≡ true → (i : ℕ) → fits_at m i ≡ core_fits m.count m.bytes i (core_at m i)
 unfolding fits_at
-alike m h i = let s = sizes m h in core-looks m.count m.bytes i (core_at m i) s.most_bytes s.words
+alike m h i = let s = sizes m h in core_looks m.count m.bytes i (core_at m i) s.most_bytes s.words
 
 pub looked : (m : Machine) → ((((((((sizes_fit m && fits_at m 0) && fits_at m 1) && fits_at m 2) && fits_at m 3) && fits_at m 4) && fits_at m 5) && fits_at m 6) && fits_at m 7) ≡ in_ranges m
 unfolding in_ranges

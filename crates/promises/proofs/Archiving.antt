@@ -66,26 +66,26 @@ good_poke a v address value = record { good = rw address; value = value }
 
 -- the reference's history is good, and its memory is bytes
 module _ (entry : GuestAddress → EntryNumber) where
-  finish-good : (ref : Reference) (c : ℕ) (o : Operation) → Bytes ref.memory → (c < 8) × GoodOperation o → GoodRecord (finish entry ref c o).access × Bytes (finish entry ref c o).memory
+  finish_good : (ref : Reference) (c : ℕ) (o : Operation) → Bytes ref.memory → (c < 8) × GoodOperation o → GoodRecord (finish entry ref c o).access × Bytes (finish entry ref c o).memory
   unfolding finish
-  finish-good ref c (Asked.Load a) bytes g = (good_access c 1 a (read_word ref.memory a) g.0 refl refl g.1.address (word_laws.a_word ref.memory a bytes), bytes)
-  finish-good ref c (Asked.Ll a) bytes g = (good_access c 2 a (read_word ref.memory a) g.0 refl refl g.1.address (word_laws.a_word ref.memory a bytes), bytes)
-  finish-good ref c (Asked.Store a v) bytes g = (good_access c 3 a v g.0 refl refl g.1.address g.1.value, word_laws.bytes_stay ref.memory a v bytes)
-  finish-good ref c (Asked.Sc a v) bytes g = go (succeeds entry c a ref.history)
+  finish_good ref c (Asked.Load a) bytes g = (good_access c 1 a (read_word ref.memory a) g.0 refl refl g.1.address (word_laws.a_word ref.memory a bytes), bytes)
+  finish_good ref c (Asked.Ll a) bytes g = (good_access c 2 a (read_word ref.memory a) g.0 refl refl g.1.address (word_laws.a_word ref.memory a bytes), bytes)
+  finish_good ref c (Asked.Store a v) bytes g = (good_access c 3 a v g.0 refl refl g.1.address g.1.value, word_laws.bytes_stay ref.memory a v bytes)
+  finish_good ref c (Asked.Sc a v) bytes g = go (succeeds entry c a ref.history)
     where
       go : (t : Bool) → GoodRecord (if t then sc_done c a v ref else sc_failed c a v ref).access × Bytes (if t then sc_done c a v ref else sc_failed c a v ref).memory
       go true = (good_access c 4 a v g.0 refl refl g.1.address g.1.value, word_laws.bytes_stay ref.memory a v bytes)
       go false = (good_access c 5 a v g.0 refl refl g.1.address g.1.value, bytes)
 
-  refer-good : (zeros : List ℕ) → Bytes zeros → (ws : List Whole) → GoodWholes ws → AllGood (refer entry zeros ws).history × Bytes (refer entry zeros ws).memory
+  refer_good : (zeros : List ℕ) → Bytes zeros → (ws : List Whole) → GoodWholes ws → AllGood (refer entry zeros ws).history × Bytes (refer entry zeros ws).memory
   unfolding refer
-  refer-good zeros bytes [] g = (tt, bytes)
-  refer-good zeros bytes (does c o ∷ ws) g =
-      let rest = refer-good zeros bytes ws g.1 in
-      let f = finish-good (refer entry zeros ws) c o rest.1 g.0 in
+  refer_good zeros bytes [] g = (tt, bytes)
+  refer_good zeros bytes (does c o ∷ ws) g =
+      let rest = refer_good zeros bytes ws g.1 in
+      let f = finish_good (refer entry zeros ws) c o rest.1 g.0 in
       ((f.0, rest.0), f.1)
-  refer-good zeros bytes (pokes a v ∷ ws) g =
-      let rest = refer-good zeros bytes ws g.1 in
+  refer_good zeros bytes (pokes a v ∷ ws) g =
+      let rest = refer_good zeros bytes ws g.1 in
       ((good_poke a v g.0.0 g.0.1, rest.0), word_laws.bytes_stay (refer entry zeros ws).memory a v rest.1)
 
 -- what is given, and run, in a run
@@ -108,9 +108,9 @@ given_fits o core op small z =
     let a = give_accepted o.called.machine core op (sym (give_number o.called.machine core op) ∙ z) in
     record { address = address_good_lem (address_of op) (sizes_fit_lem o.called.machine a.ranges).most_bytes a.address; value = small }
 
-stepped-small : (o : Outcome) (core : ℕ) → number_of (act o (step core)).called.answer ≡ 0 → core < 8
+stepped_small : (o : Outcome) (core : ℕ) → number_of (act o (step core)).called.answer ≡ 0 → core < 8
 unfolding act
-stepped-small o core z =
+stepped_small o core z =
     let a = step_accepted o.called.machine (length o.memory) o.owners o.holders core (sym (step_number o.called.machine o.memory o.owners o.holders core) ∙ z) in
     core_small o.called.machine a.ranges a.core_below
 
@@ -138,10 +138,10 @@ silent_good : (made : Handed) (w : Whole) (ws : List Whole) → made ≡ Nothing
 silent_good made w ws e rest = subst (λ (m : Handed). GoodWholes (at_access m w ws)) (sym e) rest
 
 module _ (fresh : Outcome) where
-  given-good : (c : ℕ) (calls : List Call) → WordsGiven calls → GoodOperations (given_to fresh c calls)
+  given_good : (c : ℕ) (calls : List Call) → WordsGiven calls → GoodOperations (given_to fresh c calls)
   unfolding given_to
-  given-good c [] w = tt
-  given-good c (give core o ∷ calls) w = go (eqb core c) (eqb (number_of (act (after fresh calls) (give core o)).called.answer) 0) refl (given-good c calls w.1)
+  given_good c [] w = tt
+  given_good c (give core o ∷ calls) w = go (eqb core c) (eqb (number_of (act (after fresh calls) (give core o)).called.answer) 0) refl (given_good c calls w.1)
     where
       fits : number_of (act (after fresh calls) (give core o)).called.answer ≡ 0 → GoodOperation o
       fits z = given_fits (after fresh calls) core o w.0 z
@@ -151,22 +151,22 @@ module _ (fresh : Outcome) where
       go true true e rest = (fits (eqb-true _ _ e), rest)
       go true false e rest = rest
       go false t e rest = rest
-  given-good c (step core ∷ calls) w = given-good c calls w
-  given-good c (poke a v ∷ calls) w = given-good c calls w.1
+  given_good c (step core ∷ calls) w = given_good c calls w
+  given_good c (poke a v ∷ calls) w = given_good c calls w.1
 
-  run-good : (calls : List Call) → WordsGiven calls → GoodWholes (in_order fresh calls)
+  run_good : (calls : List Call) → WordsGiven calls → GoodWholes (in_order fresh calls)
   unfolding in_order
-  run-good [] w = tt
-  run-good (give core o ∷ calls) w = run-good calls w.1
-  run-good (step core ∷ calls) w =
-      let rest = run-good calls w in
+  run_good [] w = tt
+  run_good (give core o ∷ calls) w = run_good calls w.1
+  run_good (step core ∷ calls) w =
+      let rest = run_good calls w in
       let made = (act (after fresh calls) (step core)).called.made in
       let op = last_of (given_to fresh core calls) in
       by_zero (GoodWholes (at_access made (does core op) (in_order fresh calls))) (number_of (act (after fresh calls) (step core)).called.answer)
-      (λ z. at_access_good made (does core op) (in_order fresh calls) (stepped-small (after fresh calls) core z, last_good (given_to fresh core calls) (given-good core calls w)) rest)
+      (λ z. at_access_good made (does core op) (in_order fresh calls) (stepped_small (after fresh calls) core z, last_good (given_to fresh core calls) (given_good core calls w)) rest)
       (λ d. silent_good made (does core op) (in_order fresh calls) (step_silent (after fresh calls) core d) rest)
-  run-good (poke a v ∷ calls) w =
-      let rest = run-good calls w.1 in
+  run_good (poke a v ∷ calls) w =
+      let rest = run_good calls w.1 in
       let made = (act (after fresh calls) (poke a v)).called.made in
       by_zero (GoodWholes (at_access made (pokes a v) (in_order fresh calls))) (number_of (act (after fresh calls) (poke a v)).called.answer)
       (λ z. at_access_good made (pokes a v) (in_order fresh calls) (poked_fits (after fresh calls) a v z, w.0) rest)
@@ -185,7 +185,7 @@ fresh_bytes fresh f =
 
 pub records_are_good : RecordsAreGood
 records_are_good fresh f calls w =
-    subst AllGood (sym (run_inv fresh f calls).history) (refer-good (entry_rule fresh) fresh.memory (fresh_bytes fresh f) (in_order fresh calls) (run-good fresh calls w)).0
+    subst AllGood (sym (run_inv fresh f calls).history) (refer_good (entry_rule fresh) fresh.memory (fresh_bytes fresh f) (in_order fresh calls) (run_good fresh calls w)).0
 
 -- the same in access order
 reverse_good : (h k : History) → AllGood h → AllGood k → AllGood (reverse_aux h k)

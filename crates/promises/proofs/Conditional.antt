@@ -24,8 +24,8 @@ use Rattle.rules.proofs.Judging.{and_no}
 use Rattle.rules.proofs.Lawful.{entry_laws}
 use Rattle.rules.proofs.Invariant.{run_inv, started_inv}
 use Rattle.promises.specs.Success.{Never, LlBy, ScBy, SpoiledBy, LatestLl, Succeeds}
-use Rattle.promises.specs.Riscv.{SameWord, StoreOfAnother, MustFail, no-lr, outside, stored-to, another-sc}
-use Rattle.promises.specs.Causes.{Linked, Cause, no-link, elsewhere, spoiled}
+use Rattle.promises.specs.Riscv.{SameWord, StoreOfAnother, MustFail, no_lr, outside, stored_to, another_sc}
+use Rattle.promises.specs.Causes.{Linked, Cause, no_link, elsewhere, spoiled}
 use Rattle.promises.specs.Demand2.{At, NoForbiddenSuccess, NamedCause, AnswersTell, PokeEndsNoLink}
 use Rattle.promises.proofs.Decides.{decided, decides, sc_by, by_sc, spoiled_by, by_spoiled}
 use Rattle.promises.proofs.Histories.{never_at, never_less, never_or_not, told, find_latest, latest_one}
@@ -36,22 +36,22 @@ OneWord entry = (a b : GuestAddress) → SameWord a b → entry a ≡ entry b
 
 -- what succeeds by the written rule is nothing that must fail
 may_succeed : (entry : GuestAddress → EntryNumber) → OneWord entry → (c : ℕ) (a : GuestAddress) (h : History) → Succeeds entry c a h → MustFail c a h → ⊥
-may_succeed entry one c a h s (no-lr none) = never_at (LlBy c) s.done.since s.done.ll s.done.before (subst (Never (LlBy c)) s.done.split none) s.done.by_core
+may_succeed entry one c a h s (no_lr none) = never_at (LlBy c) s.done.since s.done.ll s.done.before (subst (Never (LlBy c)) s.done.split none) s.done.by_core
 may_succeed entry one c a h s (outside lr far) = far (ap (λ (r : Record). r.address.0 / 4) (latest_one c h lr s.done).1 ∙ ap (λ (b : GuestAddress). b.0 / 4) s.there)
-may_succeed entry one c a h s (stored-to lr some) =
+may_succeed entry one c a h s (stored_to lr some) =
     some (subst (Never (StoreOfAnother c lr.ll.address)) (sym (latest_one c h lr s.done).0)
-    (never_less (SpoiledBy entry c a) (StoreOfAnother c lr.ll.address) spoils-it s.done.since s.unspoiled))
+    (never_less (SpoiledBy entry c a) (StoreOfAnother c lr.ll.address) spoils_it s.done.since s.unspoiled))
   where
     at : lr.ll.address ≡ a
     at = ap (λ (r : Record). r.address) (latest_one c h lr s.done).1 ∙ s.there
 
-    spoils-it : (r : Record) → StoreOfAnother c lr.ll.address r → SpoiledBy entry c a r
-    spoils-it r t = (t.0, inr t.1, one r.address lr.ll.address t.2 ∙ ap entry at)
-may_succeed entry one c a h s (another-sc lr some) = some (subst (Never (ScBy c)) (sym (latest_one c h lr s.done).0) s.no_sc)
+    spoils_it : (r : Record) → StoreOfAnother c lr.ll.address r → SpoiledBy entry c a r
+    spoils_it r t = (t.0, inr t.1, one r.address lr.ll.address t.2 ∙ ap entry at)
+may_succeed entry one c a h s (another_sc lr some) = some (subst (Never (ScBy c)) (sym (latest_one c h lr s.done).0) s.no_sc)
 
 -- what fails by the written rule has a cause
 has_cause : (entry : GuestAddress → EntryNumber) (c : ℕ) (a : GuestAddress) (h : History) → (Succeeds entry c a h → ⊥) → Cause entry c a h
-has_cause entry c a h fails = ⊎_elim (λ none. no-link (λ k. unlinked none k)) latest (find_latest c h)
+has_cause entry c a h fails = ⊎_elim (λ none. no_link (λ k. unlinked none k)) latest (find_latest c h)
   where
     unlinked : Never (LlBy c) h → Linked c h → ⊥
     unlinked none k = never_at (LlBy c) k.last.since k.last.ll k.last.before (subst (Never (LlBy c)) k.last.split none) k.last.by_core
@@ -68,7 +68,7 @@ has_cause entry c a h fails = ⊎_elim (λ none. no-link (λ k. unlinked none k)
         go true e (inl v) = absurd (fails (record { done = k.last; there = same e; no_sc = k.no_sc; unspoiled = v }))
 
     latest : LatestLl c h → Cause entry c a h
-    latest l = ⊎_elim (λ u. linked (record { last = l; no_sc = u })) (λ u. no-link (λ k. u (subst (Never (ScBy c)) (latest_one c h k.last l).0 k.no_sc)))
+    latest l = ⊎_elim (λ u. linked (record { last = l; no_sc = u })) (λ u. no_link (λ k. u (subst (Never (ScBy c)) (latest_one c h k.last l).0 k.no_sc)))
         (never_or_not (ScBy c) (λ r. told (own_sc c r) (sc_by c r) (by_sc c r)) l.since)
 
 -- every access of a reference was judged by the rule from what was before it
@@ -76,13 +76,13 @@ abbrev Judged : (GuestAddress → EntryNumber) → History → Type 0
 Judged entry [] = Unit {0}
 Judged entry (r ∷ h) = (r.kind ≡ 4 → succeeds entry r.core r.address h ≡ true) × (r.kind ≡ 5 → succeeds entry r.core r.address h ≡ false) × Judged entry h
 
-judged-sc : (entry : GuestAddress → EntryNumber) (ref : Reference) (c : ℕ) (a : GuestAddress) (v : ℕ) (t : Bool) → succeeds entry c a ref.history ≡ t
+judged_sc : (entry : GuestAddress → EntryNumber) (ref : Reference) (c : ℕ) (a : GuestAddress) (v : ℕ) (t : Bool) → succeeds entry c a ref.history ≡ t
     → ((if t then sc_done c a v ref else sc_failed c a v ref).access.kind ≡ 4
     → succeeds entry (if t then sc_done c a v ref else sc_failed c a v ref).access.core (if t then sc_done c a v ref else sc_failed c a v ref).access.address ref.history ≡ true)
     × ((if t then sc_done c a v ref else sc_failed c a v ref).access.kind ≡ 5
     → succeeds entry (if t then sc_done c a v ref else sc_failed c a v ref).access.core (if t then sc_done c a v ref else sc_failed c a v ref).access.address ref.history ≡ false)
-judged-sc entry ref c a v true p = ((λ e. p), (λ e. absurd (eqb-false 4 5 refl e)))
-judged-sc entry ref c a v false p = ((λ e. absurd (eqb-false 5 4 refl e)), (λ e. p))
+judged_sc entry ref c a v true p = ((λ e. p), (λ e. absurd (eqb-false 4 5 refl e)))
+judged_sc entry ref c a v false p = ((λ e. absurd (eqb-false 5 4 refl e)), (λ e. p))
 
 judged : (entry : GuestAddress → EntryNumber) (zeros : List ℕ) (ws : List Whole) → Judged entry (refer entry zeros ws).history
 unfolding refer finish
@@ -91,7 +91,7 @@ judged entry zeros (does c (Asked.Load a) ∷ ws) = ((λ e. absurd (eqb-false 1 
 judged entry zeros (does c (Asked.Ll a) ∷ ws) = ((λ e. absurd (eqb-false 2 4 refl e)), (λ e. absurd (eqb-false 2 5 refl e)), judged entry zeros ws)
 judged entry zeros (does c (Asked.Store a v) ∷ ws) = ((λ e. absurd (eqb-false 3 4 refl e)), (λ e. absurd (eqb-false 3 5 refl e)), judged entry zeros ws)
 judged entry zeros (does c (Asked.Sc a v) ∷ ws) =
-    let q = judged-sc entry (refer entry zeros ws) c a v (succeeds entry c a (refer entry zeros ws).history) refl in
+    let q = judged_sc entry (refer entry zeros ws) c a v (succeeds entry c a (refer entry zeros ws).history) refl in
     (q.0, q.1, judged entry zeros ws)
 judged entry zeros (pokes a v ∷ ws) = ((λ e. absurd (eqb-false 6 4 refl e)), (λ e. absurd (eqb-false 6 5 refl e)), judged entry zeros ws)
 
@@ -116,8 +116,8 @@ number_in (Answered.Word v) = 2
 
 -- in a run from a fresh machine
 module _ (fresh : Outcome) (f : Fresh fresh) (calls : List Call) (r : Record) (earlier : History) (at : At fresh calls r earlier) where
-  rule-at : (r.kind ≡ 4 → succeeds (entry_rule fresh) r.core r.address earlier ≡ true) × (r.kind ≡ 5 → succeeds (entry_rule fresh) r.core r.address earlier ≡ false)
-  rule-at =
+  rule_at : (r.kind ≡ 4 → succeeds (entry_rule fresh) r.core r.address earlier ≡ true) × (r.kind ≡ 5 → succeeds (entry_rule fresh) r.core r.address earlier ≡ false)
+  rule_at =
       judged_at (entry_rule fresh) at.later r earlier
       (subst (Judged (entry_rule fresh)) (sym (run_inv fresh f calls).history ∙ at.split) (judged (entry_rule fresh) fresh.memory (in_order fresh calls)))
 
@@ -126,11 +126,11 @@ module _ (fresh : Outcome) (f : Fresh fresh) (calls : List Call) (r : Record) (e
 
 pub no_forbidden_success : NoForbiddenSuccess
 no_forbidden_success fresh f calls r earlier at k =
-    may_succeed (entry_rule fresh) (one_word fresh f calls r earlier at) r.core r.address earlier (decided (entry_rule fresh) r.core r.address earlier ((rule-at fresh f calls r earlier at).0 k))
+    may_succeed (entry_rule fresh) (one_word fresh f calls r earlier at) r.core r.address earlier (decided (entry_rule fresh) r.core r.address earlier ((rule_at fresh f calls r earlier at).0 k))
 
 pub named_cause : NamedCause
 named_cause fresh f calls r earlier at k =
-    has_cause (entry_rule fresh) r.core r.address earlier (λ s. true≢false (sym (decides (entry_rule fresh) r.core r.address earlier s) ∙ (rule-at fresh f calls r earlier at).1 k))
+    has_cause (entry_rule fresh) r.core r.address earlier (λ s. true≢false (sym (decides (entry_rule fresh) r.core r.address earlier s) ∙ (rule_at fresh f calls r earlier at).1 k))
 
 pub answers_tell : (entry : GuestAddress → EntryNumber) (ref : Reference) (c : ℕ) (a : GuestAddress) (v : ℕ) → AnswersTell entry ref c a v
 unfolding finish

@@ -82,37 +82,37 @@ module _ (fresh : Outcome) (f : Fresh fresh) (calls : List Call) where
   Ok i p = CoreOk n fresh.memory o (records fresh calls) (in_order fresh calls) i p (given_to fresh i calls) (delivered_to fresh i calls)
 
   -- a holder is inside, and who is inside holds
-  inside-shown : (i e : ℕ) (p : Phase) → Ok i p → get_or o.holders e 0 ≡ written i → Inside fresh (picture p (link_of i (records fresh calls))) e
-  inside-shown i e rests ok q = absurd (ok.held e q)
-  inside-shown i e (loads a) ok q = absurd (ok.held e q)
-  inside-shown i e (asks l) ok q = absurd (ok.held e q)
-  inside-shown i e (holds l) ok q = record { busy = refl; locked = code_locked l; from_2 = omega arith; here = ok.held e q }
-  inside-shown i e (reaches l passed) ok q = record { busy = refl; locked = code_locked l; from_2 = omega arith; here = ok.held e q }
-  inside-shown i e (leaves l passed read) ok q = record { busy = refl; locked = code_locked l; from_2 = omega arith; here = ok.held e q }
+  inside_shown : (i e : ℕ) (p : Phase) → Ok i p → get_or o.holders e 0 ≡ written i → Inside fresh (picture p (link_of i (records fresh calls))) e
+  inside_shown i e rests ok q = absurd (ok.held e q)
+  inside_shown i e (loads a) ok q = absurd (ok.held e q)
+  inside_shown i e (asks l) ok q = absurd (ok.held e q)
+  inside_shown i e (holds l) ok q = record { busy = refl; locked = code_locked l; from_2 = omega arith; here = ok.held e q }
+  inside_shown i e (reaches l passed) ok q = record { busy = refl; locked = code_locked l; from_2 = omega arith; here = ok.held e q }
+  inside_shown i e (leaves l passed read) ok q = record { busy = refl; locked = code_locked l; from_2 = omega arith; here = ok.held e q }
 
-  holds-shown : (i e : ℕ) (p : Phase) → Ok i p → 2 ≤ (picture p (link_of i (records fresh calls))).next → (entry_rule fresh (picture p (link_of i (records fresh calls))).address).0 ≡ e
+  holds_shown : (i e : ℕ) (p : Phase) → Ok i p → 2 ≤ (picture p (link_of i (records fresh calls))).next → (entry_rule fresh (picture p (link_of i (records fresh calls))).address).0 ≡ e
       → get_or o.holders e 0 ≡ written i
-  holds-shown i e rests ok from here = absurd (omega arith)
-  holds-shown i e (loads a) ok from here = absurd (omega arith)
-  holds-shown i e (asks l) ok from here = absurd (omega arith)
-  holds-shown i e (holds l) ok from here = ap (λ (j : ℕ). get_or o.holders j 0) (sym here) ∙ ok.table.0
-  holds-shown i e (reaches l passed) ok from here = ap (λ (j : ℕ). get_or o.holders j 0) (sym here) ∙ ok.table.0
-  holds-shown i e (leaves l passed read) ok from here = ap (λ (j : ℕ). get_or o.holders j 0) (sym here) ∙ ok.table.0
+  holds_shown i e rests ok from here = absurd (omega arith)
+  holds_shown i e (loads a) ok from here = absurd (omega arith)
+  holds_shown i e (asks l) ok from here = absurd (omega arith)
+  holds_shown i e (holds l) ok from here = ap (λ (j : ℕ). get_or o.holders j 0) (sym here) ∙ ok.table.0
+  holds_shown i e (reaches l passed) ok from here = ap (λ (j : ℕ). get_or o.holders j 0) (sym here) ∙ ok.table.0
+  holds_shown i e (leaves l passed read) ok from here = ap (λ (j : ℕ). get_or o.holders j 0) (sym here) ∙ ok.table.0
 
   -- who has not taken the lock does not hold it
-  outside-shown : (i e : ℕ) (p : Phase) → Ok i p → (picture p (link_of i (records fresh calls))).next ≡ 1 → get_or o.holders e 0 ≡ written i → ⊥
-  outside-shown i e rests ok one q = ok.held e q
-  outside-shown i e (loads a) ok one q = ok.held e q
-  outside-shown i e (asks l) ok one q = ok.held e q
-  outside-shown i e (holds l) ok one q = eqb-false 2 1 refl one
-  outside-shown i e (reaches l passed) ok one q = eqb-false 3 1 refl one
-  outside-shown i e (leaves l passed read) ok one q = eqb-false 4 1 refl one
+  outside_shown : (i e : ℕ) (p : Phase) → Ok i p → (picture p (link_of i (records fresh calls))).next ≡ 1 → get_or o.holders e 0 ≡ written i → ⊥
+  outside_shown i e rests ok one q = ok.held e q
+  outside_shown i e (loads a) ok one q = ok.held e q
+  outside_shown i e (asks l) ok one q = ok.held e q
+  outside_shown i e (holds l) ok one q = eqb-false 2 1 refl one
+  outside_shown i e (reaches l passed) ok one q = eqb-false 3 1 refl one
+  outside_shown i e (leaves l passed read) ok one q = eqb-false 4 1 refl one
 
-  holder-is-inside : (e i : ℕ) → get_or o.holders e 0 ≡ written i → Inside fresh (core_at o.called.machine i) e
-  holder-is-inside e i q = subst (λ (y : Core). Inside fresh y e) (sym (inv.cores i).core) (inside-shown i e (inv.phase i) (inv.cores i) q)
+  holder_is_inside : (e i : ℕ) → get_or o.holders e 0 ≡ written i → Inside fresh (core_at o.called.machine i) e
+  holder_is_inside e i q = subst (λ (y : Core). Inside fresh y e) (sym (inv.cores i).core) (inside_shown i e (inv.phase i) (inv.cores i) q)
 
-  inside-is-holder : (e i : ℕ) → Inside fresh (core_at o.called.machine i) e → get_or o.holders e 0 ≡ written i
-  inside-is-holder e i q = let r = subst (λ (y : Core). Inside fresh y e) (inv.cores i).core q in holds-shown i e (inv.phase i) (inv.cores i) r.from_2 r.here
+  inside_is_holder : (e i : ℕ) → Inside fresh (core_at o.called.machine i) e → get_or o.holders e 0 ≡ written i
+  inside_is_holder e i q = let r = subst (λ (y : Core). Inside fresh y e) (inv.cores i).core q in holds_shown i e (inv.phase i) (inv.cores i) r.from_2 r.here
 
   -- the entry of a core that is at a locked operation is whole
   whole : (c : ℕ)
@@ -122,46 +122,46 @@ module _ (fresh : Outcome) (f : Fresh fresh) (calls : List Call) where
       let core = (inv.cores c).core in
       let here : (entry_rule fresh (core_at o.called.machine c).address).0 ≡ e = ap (λ (k : ℕ). (entry_of k (core_at o.called.machine c).address).0) (sym inv.same) in
       not_damaged o.called.machine.count c (core_at o.called.machine c) (get_or o.owners e 0) (get_or o.holders e 0) (inv.owners_small e) (inv.holders_small e)
-      (λ from. holds-shown c e (inv.phase c) (inv.cores c) (subst (λ (y : Core). 2 ≤ y.next) core from) (subst (λ (y : Core). (entry_rule fresh y.address).0 ≡ e) core here))
-      (λ one. outside-shown c e (inv.phase c) (inv.cores c) (subst (λ (y : Core). y.next ≡ 1) core one))
+      (λ from. holds_shown c e (inv.phase c) (inv.cores c) (subst (λ (y : Core). 2 ≤ y.next) core from) (subst (λ (y : Core). (entry_rule fresh y.address).0 ≡ e) core here))
+      (λ one. outside_shown c e (inv.phase c) (inv.cores c) (subst (λ (y : Core). y.next ≡ 1) core one))
 
-  mild-step : (c : ℕ) → Mild (step_refusal o.called.machine (length o.memory) o.owners o.holders c)
+  mild_step : (c : ℕ) → Mild (step_refusal o.called.machine (length o.memory) o.owners o.holders c)
   unfolding step_refusal
-  mild-step c =
+  mild_step c =
       rw (inv.sound.ranges, inv.sound.lengths)
-      (of_both Mild (leb o.called.machine.count c) (mild 1 refl refl refl) (busy-or-not (core_at o.called.machine c).busy refl))
+      (of_both Mild (leb o.called.machine.count c) (mild 1 refl refl refl) (busy_or_not (core_at o.called.machine c).busy refl))
     where
-      busy-or-not : (t : Bool) → (core_at o.called.machine c).busy ≡ t → Mild (if not (core_at o.called.machine c).busy then 8
+      busy_or_not : (t : Bool) → (core_at o.called.machine c).busy ≡ t → Mild (if not (core_at o.called.machine c).busy then 8
           else if damaged o.called.machine.count c (core_at o.called.machine c) (mark_at o.owners (entry_at o.called.machine c)) (mark_at o.holders (entry_at o.called.machine c)) then 6 else 0)
-      busy-or-not true e = rw (e, whole c) (mild 0 refl refl refl)
-      busy-or-not false e = rw e (mild 8 refl refl refl)
+      busy_or_not true e = rw (e, whole c) (mild 0 refl refl refl)
+      busy_or_not false e = rw e (mild 8 refl refl refl)
 
-  mild-give : (c : ℕ) (op : Operation) → Mild (give_refusal o.called.machine c op)
+  mild_give : (c : ℕ) (op : Operation) → Mild (give_refusal o.called.machine c op)
   unfolding give_refusal
-  mild-give c op =
+  mild_give c op =
       rw inv.sound.ranges
       (of_both Mild (leb o.called.machine.count c) (mild 1 refl refl refl) (of_both Mild (core_at o.called.machine c).busy (mild 7 refl refl refl) (mild_address o.called.machine.bytes (address_of op))))
 
-  mild-poke : (a : GuestAddress) → Mild (word_refusal o.called.machine (length o.memory) a)
+  mild_poke : (a : GuestAddress) → Mild (word_refusal o.called.machine (length o.memory) a)
   unfolding word_refusal
-  mild-poke a =
+  mild_poke a =
       let l = lent o.called.machine (length o.memory) (length o.owners) (length o.holders) inv.sound.lengths in
       rw (inv.sound.ranges, eq-eqb (length o.memory) o.called.machine.bytes l.memory_length) (mild_address o.called.machine.bytes a)
 
-  mild-call : (call : Call) → Mild (number_of (act o call).called.answer)
+  mild_call : (call : Call) → Mild (number_of (act o call).called.answer)
   unfolding act
-  mild-call (give c op) = subst Mild (sym (give_number o.called.machine c op)) (mild-give c op)
-  mild-call (step c) = subst Mild (sym (step_number o.called.machine o.memory o.owners o.holders c)) (mild-step c)
-  mild-call (poke a v) = subst Mild (sym (poke_number o.called.machine o.memory a v)) (mild-poke a)
+  mild_call (give c op) = subst Mild (sym (give_number o.called.machine c op)) (mild_give c op)
+  mild_call (step c) = subst Mild (sym (step_number o.called.machine o.memory o.owners o.holders c)) (mild_step c)
+  mild_call (poke a v) = subst Mild (sym (poke_number o.called.machine o.memory a v)) (mild_poke a)
 
   stands : Stands fresh calls
   stands =
       record {
-        never_4 = λ call. (mild-call call).0;
-        never_5 = λ call. (mild-call call).1;
-        never_6 = λ call. (mild-call call).2;
-        holder_inside = holder-is-inside;
-        inside_holder = inside-is-holder;
+        never_4 = λ call. (mild_call call).0;
+        never_5 = λ call. (mild_call call).1;
+        never_6 = λ call. (mild_call call).2;
+        holder_inside = holder_is_inside;
+        inside_holder = inside_is_holder;
         owner_marks = inv.free;
         links = λ i.
             let s = link_shown (inv.phase i) (link_of i (records fresh calls)) in

@@ -12,7 +12,7 @@ pub record Linked (c : ℕ) (history : History) : Type 0 where
   pub no_sc : Never (ScBy c) last.since
 
 pub data Cause (entry : GuestAddress → EntryNumber) (c : ℕ) (a : GuestAddress) (history : History) : Type 0 where
-  no-link : (Linked c history → ⊥) → Cause entry c a history
+  no_link : (Linked c history → ⊥) → Cause entry c a history
   elsewhere : (link : Linked c history) → (link.last.ll.address ≡ a → ⊥) → Cause entry c a history
   -- another core's ll, store or successful sc at the same entry since
   spoiled : (link : Linked c history) → link.last.ll.address ≡ a → Some (SpoiledBy entry c a) link.last.since → Cause entry c a history

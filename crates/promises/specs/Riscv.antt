@@ -20,10 +20,10 @@ StoreOfAnother c word r = (r.core ≡ c → ⊥) × ((r.kind ≡ 3) ⊎ (r.kind 
 -- "An SC pairs only with the latest LR before it in program order. An SC must fail if .."
 pub data MustFail (c : ℕ) (a : GuestAddress) (history : History) : Type 0 where
   -- "there is no such LR"
-  no-lr : Never (LlBy c) history → MustFail c a history
+  no_lr : Never (LlBy c) history → MustFail c a history
   -- "or the address is not within that LR's reservation set"
   outside : (lr : LatestLl c history) → (SameWord lr.ll.address a → ⊥) → MustFail c a history
   -- "a store of another hart to the reservation set can be observed to occur between the LR and the SC"
-  stored-to : (lr : LatestLl c history) → Some (StoreOfAnother c lr.ll.address) lr.since → MustFail c a history
+  stored_to : (lr : LatestLl c history) → Some (StoreOfAnother c lr.ll.address) lr.since → MustFail c a history
   -- "there is another SC of the same hart, to any address, between them in program order"
-  another-sc : (lr : LatestLl c history) → Some (ScBy c) lr.since → MustFail c a history
+  another_sc : (lr : LatestLl c history) → Some (ScBy c) lr.since → MustFail c a history

@@ -20,7 +20,7 @@ use Rattle.rules.proofs.entry.GuestAddress.place.Kinds as place-kinds
 use Rattle.rules.proofs.entry.GuestAddress.place.Reads as place-reads
 use Rattle.rules.specs.contracts.answers.Operation.code as code
 use Rattle.rules.proofs.answers.Operation.code.Kinds as code-kinds
-use Rattle.rules.proofs.answers.Operation.code.Reads as code_Reads
+use Rattle.rules.proofs.answers.Operation.code.Reads as code-reads
 use Rattle.rules.specs.contracts.answers.Operation.address as address
 use Rattle.rules.proofs.answers.Operation.address.Kinds as address-kinds
 use Rattle.rules.proofs.answers.Operation.address.Reads as address-reads
@@ -58,7 +58,7 @@ module _ (κs : Lfts 0) (a : ArgsD place.signature κs) (one other : ℕ) (s t :
   place_determined p q = one-outcome ℕ _ _ _ p q
 
 module _ (κs : Lfts 0) (a : ArgsD code.signature κs) (one other : ℕ) (s t : AtExit (ended_of 0 code-kinds.ps code-kinds.r) κs) where
-  pub code_determined : code_Reads.Post κs a one s → code_Reads.Post κs a other t → one ≡ other
+  pub code_determined : code-reads.Post κs a one s → code-reads.Post κs a other t → one ≡ other
   code_determined p q = one-outcome ℕ _ _ _ p q
 
 module _ (κs : Lfts 0) (a : ArgsD address.signature κs) (one other : GuestAddress) (s t : AtExit (ended_of 0 address-kinds.ps address-kinds.r) κs) where

@@ -70,59 +70,59 @@ stepped_as n o c core s same z p q = rw (eq-eqb _ _ z, p, same, q)
 
 -- what the other calls leave
 module _ (o : Outcome) where
-  give-done : (c : ℕ) (op : Operation) → give_refusal o.called.machine c op ≡ 0
+  give_done : (c : ℕ) (op : Operation) → give_refusal o.called.machine c op ≡ 0
       → act o (give c op) ≡ outcome (answered Answered.Taken (with_core o.called.machine c (given (core_at o.called.machine c) op))) o.memory o.owners o.holders
   unfolding act give_of
-  give-done c op z = rw (eq-eqb _ _ z)
+  give_done c op z = rw (eq-eqb _ _ z)
 
-  give-refused : (c : ℕ) (op : Operation) → (give_refusal o.called.machine c op ≡ 0 → ⊥)
+  give_refused : (c : ℕ) (op : Operation) → (give_refusal o.called.machine c op ≡ 0 → ⊥)
       → act o (give c op) ≡ outcome (refused (give_refusal o.called.machine c op) o.called.machine) o.memory o.owners o.holders
   unfolding act give_of
-  give-refused c op d = rw (ne_eqb _ _ d)
+  give_refused c op d = rw (ne_eqb _ _ d)
 
-  step-refused : (c : ℕ) → (step_refusal o.called.machine (length o.memory) o.owners o.holders c ≡ 0 → ⊥)
+  step_refused : (c : ℕ) → (step_refusal o.called.machine (length o.memory) o.owners o.holders c ≡ 0 → ⊥)
       → act o (step c) ≡ outcome (refused (step_refusal o.called.machine (length o.memory) o.owners o.holders c) o.called.machine) o.memory o.owners o.holders
   unfolding act step_of
-  step-refused c d = rw (ne_eqb _ _ d)
+  step_refused c d = rw (ne_eqb _ _ d)
 
-  poke-done : (a : GuestAddress) (v : ℕ) → word_refusal o.called.machine (length o.memory) a ≡ 0
+  poke_done : (a : GuestAddress) (v : ℕ) → word_refusal o.called.machine (length o.memory) a ≡ 0
       → act o (poke a v) ≡ outcome (record { answer = Answered.Poked; made = One (access_of poke_core poke_kind a v); machine = o.called.machine }) (write_word o.memory a v) o.owners o.holders
   unfolding act poke_of
-  poke-done a v z = rw (eq-eqb _ _ z)
+  poke_done a v z = rw (eq-eqb _ _ z)
 
-  poke-refused : (a : GuestAddress) (v : ℕ) → (word_refusal o.called.machine (length o.memory) a ≡ 0 → ⊥)
+  poke_refused : (a : GuestAddress) (v : ℕ) → (word_refusal o.called.machine (length o.memory) a ≡ 0 → ⊥)
       → act o (poke a v) ≡ outcome (refused (word_refusal o.called.machine (length o.memory) a) o.called.machine) o.memory o.owners o.holders
   unfolding act poke_of
-  poke-refused a v d = rw (ne_eqb _ _ d)
+  poke_refused a v d = rw (ne_eqb _ _ d)
 
 module _ (n : ℕ) (zeros : List ℕ) (o : Outcome) (h : History) (ws : List Whole) (gs : ℕ → List Operation) (ds : ℕ → List Answer) (inv : Inv n zeros o h ws gs ds) where
   abbrev After : Call → Outcome → Type 0
   After call x = Next n zeros call h ws gs ds x
 
   -- along an equation for what the call leaves
-  leaves-as : (call : Call) (x : Outcome) → act o call ≡ x → (Sound x → After call x) → After call (act o call)
-  leaves-as call x e f = subst (After call) (sym e) (f (subst Sound e (sound_act o inv.sound call)))
+  leaves_as : (call : Call) (x : Outcome) → act o call ≡ x → (Sound x → After call x) → After call (act o call)
+  leaves_as call x e f = subst (After call) (sym e) (f (subst Sound e (sound_act o inv.sound call)))
 
   -- a call that is refused
-  refused-give : (c : ℕ) (op : Operation) (k : ℕ) → (k ≡ 0 → ⊥) → After (give c op) (outcome (refused k o.called.machine) o.memory o.owners o.holders)
-  refused-give c op k d =
+  refused_give : (c : ℕ) (op : Operation) (k : ℕ) → (k ≡ 0 → ⊥) → After (give c op) (outcome (refused k o.called.machine) o.memory o.owners o.holders)
+  refused_give c op k d =
       carried n zeros o h ws gs ds inv (Answered.Refused k) Nothing (λ i. taken i (give c op) (Answered.Refused k) (gs i)) ds (λ i. rw (ne_eqb k 0 d, and_no (eqb c i))) (λ i. refl)
 
-  refused-step : (c k : ℕ) → After (step c) (outcome (refused k o.called.machine) o.memory o.owners o.holders)
-  refused-step c k = carried n zeros o h ws gs ds inv (Answered.Refused k) Nothing gs (λ i. delivers i (step c) (Answered.Refused k) (ds i)) (λ i. refl) (λ i. rw (and_no (eqb c i)))
+  refused_step : (c k : ℕ) → After (step c) (outcome (refused k o.called.machine) o.memory o.owners o.holders)
+  refused_step c k = carried n zeros o h ws gs ds inv (Answered.Refused k) Nothing gs (λ i. delivers i (step c) (Answered.Refused k) (ds i)) (λ i. refl) (λ i. rw (and_no (eqb c i)))
 
-  next-give : (c : ℕ) (op : Operation) → After (give c op) (act o (give c op))
-  next-give c op =
+  next_give : (c : ℕ) (op : Operation) → After (give c op) (act o (give c op))
+  next_give c op =
       by_zero (After (give c op) (act o (give c op))) (give_refusal o.called.machine c op)
       (λ z. let a = give_accepted o.called.machine c op z in
-      leaves-as (give c op) _ (give-done o c op z) (given_next n zeros o h ws gs ds inv c op (core_small o.called.machine a.ranges a.core_below) a.idle))
-      (λ d. leaves-as (give c op) _ (give-refused o c op d) (λ s. refused-give c op (give_refusal o.called.machine c op) d))
+      leaves_as (give c op) _ (give_done o c op z) (given_next n zeros o h ws gs ds inv c op (core_small o.called.machine a.ranges a.core_below) a.idle))
+      (λ d. leaves_as (give c op) _ (give_refused o c op d) (λ s. refused_give c op (give_refusal o.called.machine c op) d))
 
-  next-poke : (a : GuestAddress) (v : ℕ) → After (poke a v) (act o (poke a v))
-  next-poke a v =
+  next_poke : (a : GuestAddress) (v : ℕ) → After (poke a v) (act o (poke a v))
+  next_poke a v =
       by_zero (After (poke a v) (act o (poke a v))) (word_refusal o.called.machine (length o.memory) a)
-      (λ z. leaves-as (poke a v) _ (poke-done o a v z) (poked_next n zeros o h ws gs ds inv a v))
-      (λ d. leaves-as (poke a v) _ (poke-refused o a v d) (λ s. carried n zeros o h ws gs ds inv (Answered.Refused (word_refusal o.called.machine (length o.memory) a)) Nothing gs ds (λ i. refl) (λ i. refl)))
+      (λ z. leaves_as (poke a v) _ (poke_done o a v z) (poked_next n zeros o h ws gs ds inv a v))
+      (λ d. leaves_as (poke a v) _ (poke_refused o a v d) (λ s. carried n zeros o h ws gs ds inv (Answered.Refused (word_refusal o.called.machine (length o.memory) a)) Nothing gs ds (λ i. refl) (λ i. refl)))
 
   -- a step that is not refused, by the phase that its core is in
   module _ (c : ℕ) (z : step_refusal o.called.machine (length o.memory) o.owners o.holders c ≡ 0) where
@@ -132,8 +132,8 @@ module _ (n : ℕ) (zeros : List ℕ) (o : Outcome) (h : History) (ws : List Who
     small : c < 8
     small = core_small o.called.machine accepted.ranges accepted.core_below
 
-    entry-there : (a : GuestAddress) → ((entry_of n a).0 < n) × ((entry_of n a).0 < length o.owners) × ((entry_of n a).0 < length o.holders)
-    entry-there a =
+    entry_there : (a : GuestAddress) → ((entry_of n a).0 < n) × ((entry_of n a).0 < length o.owners) × ((entry_of n a).0 < length o.holders)
+    entry_there a =
         let e : (entry_of n a).0 < n = subst (λ (k : ℕ). (entry_of k a).0 < k) inv.same (entry_below o.called.machine.entries a (sizes_fit_lem o.called.machine accepted.ranges).entries) in
         let l = accepted.lengths in
         let s = inv.same in
@@ -146,23 +146,23 @@ module _ (n : ℕ) (zeros : List ℕ) (o : Outcome) (h : History) (ws : List Who
     abbrev holderHere : GuestAddress → ℕ
     holderHere a = get_or o.holders (entry_of n a).0 0
 
-    leaves-stepped : (core : Core) (s : MicroStep) → core_at o.called.machine c ≡ core → micro_step c core (ownerHere core.address) (holderHere core.address) (read_word o.memory core.address) ≡ s
+    leaves_stepped : (core : Core) (s : MicroStep) → core_at o.called.machine c ≡ core → micro_step c core (ownerHere core.address) (holderHere core.address) (read_word o.memory core.address) ≡ s
         → (Sound (outcome (record { answer = s.answer; made = s.made; machine = with_core o.called.machine c s.core })
         (if s.writes then write_word o.memory core.address core.value else o.memory) (set o.owners (entry_of n core.address).0 s.owner) (set o.holders (entry_of n core.address).0 s.holder))
         → After (step c) (outcome (record { answer = s.answer; made = s.made; machine = with_core o.called.machine c s.core })
         (if s.writes then write_word o.memory core.address core.value else o.memory) (set o.owners (entry_of n core.address).0 s.owner) (set o.holders (entry_of n core.address).0 s.holder)))
         → After (step c) (act o (step c))
-    leaves-stepped core s p q f = leaves-as (step c) _ (stepped_as n o c core s inv.same z p q) f
+    leaves_stepped core s p q f = leaves_as (step c) _ (stepped_as n o c core s inv.same z p q) f
 
     -- owners and holders that are set to what they were
-    marks-kept : (answer : Answer) (made : Handed) (y : Core) (e : ℕ)
+    marks_kept : (answer : Answer) (made : Handed) (y : Core) (e : ℕ)
         → outcome (record { answer = answer; made = made; machine = with_core o.called.machine c y }) o.memory (set o.owners e (get_or o.owners e 0)) (set o.holders e (get_or o.holders e 0))
         ≡ outcome (record { answer = answer; made = made; machine = with_core o.called.machine c y }) o.memory o.owners o.holders
-    marks-kept answer made y e = λ i. outcome (record { answer = answer; made = made; machine = with_core o.called.machine c y }) o.memory (set-get_or o.owners e 0 i) (set-get_or o.holders e 0 i)
+    marks_kept answer made y e = λ i. outcome (record { answer = answer; made = made; machine = with_core o.called.machine c y }) o.memory (set-get_or o.owners e 0 i) (set-get_or o.holders e 0 i)
 
     -- a core that is set to what it was
-    machine-same : (y : Core) → core_at o.called.machine c ≡ y → with_core o.called.machine c y ≡ o.called.machine
-    machine-same y p =
+    machine_same : (y : Core) → core_at o.called.machine c ≡ y → with_core o.called.machine c y ≡ o.called.machine
+    machine_same y p =
         let cs = ap (set o.called.machine.cores c) (sym p) ∙ set-get_or o.called.machine.cores c idle in
         λ i. record { cores = cs i; count = o.called.machine.count; bytes = o.called.machine.bytes; entries = o.called.machine.entries }
 
@@ -175,56 +175,56 @@ module _ (n : ℕ) (zeros : List ℕ) (o : Outcome) (h : History) (ws : List Who
         (set o.owners (entry_of n (place_of l)).0 (ownerHere (place_of l))) (set o.holders (entry_of n (place_of l)).0 (holderHere (place_of l)))
         ≡ outcome (record { answer = Answered.Waits; made = Nothing; machine = o.called.machine }) o.memory o.owners o.holders
     waited l p =
-        marks-kept Answered.Waits Nothing (picture (asks l) (link_of c h)) (entry_of n (place_of l)).0
-        ∙ ap (λ (m : Machine). outcome (record { answer = Answered.Waits; made = Nothing; machine = m }) o.memory o.owners o.holders) (machine-same (picture (asks l) (link_of c h)) p)
+        marks_kept Answered.Waits Nothing (picture (asks l) (link_of c h)) (entry_of n (place_of l)).0
+        ∙ ap (λ (m : Machine). outcome (record { answer = Answered.Waits; made = Nothing; machine = m }) o.memory o.owners o.holders) (machine_same (picture (asks l) (link_of c h)) p)
 
-    waits-next : After (step c) (outcome (record { answer = Answered.Waits; made = Nothing; machine = o.called.machine }) o.memory o.owners o.holders)
-    waits-next = carried n zeros o h ws gs ds inv Answered.Waits Nothing gs (λ i. delivers i (step c) Answered.Waits (ds i)) (λ i. refl) (λ i. rw (and_no (eqb c i)))
+    waits_next : After (step c) (outcome (record { answer = Answered.Waits; made = Nothing; machine = o.called.machine }) o.memory o.owners o.holders)
+    waits_next = carried n zeros o h ws gs ds inv Answered.Waits Nothing gs (λ i. delivers i (step c) Answered.Waits (ds i)) (λ i. refl) (λ i. rw (and_no (eqb c i)))
 
-    by-phase : (p : Phase) → CoreOk n zeros o h ws c p (gs c) (ds c) → After (step c) (act o (step c))
-    by-phase rests ok = absurd (true≢false (sym accepted.busy ∙ ap (λ (y : Core). y.busy) ok.core))
-    by-phase (loads a) ok =
-        leaves-stepped (picture (loads a) (link_of c h)) _ ok.core (load_step_lem c (link_of c h) (ownerHere a) (holderHere a) (read_word o.memory a) a)
-        (λ s. subst (After (step c)) (sym (marks-kept (Answered.Load (read_word o.memory a)) (One (access_of c 1 a (read_word o.memory a))) (picture rests (link_of c h)) (entry_of n a).0))
-        (loaded_next n zeros o h ws gs ds inv c a small ok (subst Sound (marks-kept (Answered.Load (read_word o.memory a)) (One (access_of c 1 a (read_word o.memory a))) (picture rests (link_of c h)) (entry_of n a).0) s)))
-    by-phase (asks l) ok = free-or-not (eqb (holderHere (place_of l)) 0) refl
+    by_phase : (p : Phase) → CoreOk n zeros o h ws c p (gs c) (ds c) → After (step c) (act o (step c))
+    by_phase rests ok = absurd (true≢false (sym accepted.busy ∙ ap (λ (y : Core). y.busy) ok.core))
+    by_phase (loads a) ok =
+        leaves_stepped (picture (loads a) (link_of c h)) _ ok.core (load_step_lem c (link_of c h) (ownerHere a) (holderHere a) (read_word o.memory a) a)
+        (λ s. subst (After (step c)) (sym (marks_kept (Answered.Load (read_word o.memory a)) (One (access_of c 1 a (read_word o.memory a))) (picture rests (link_of c h)) (entry_of n a).0))
+        (loaded_next n zeros o h ws gs ds inv c a small ok (subst Sound (marks_kept (Answered.Load (read_word o.memory a)) (One (access_of c 1 a (read_word o.memory a))) (picture rests (link_of c h)) (entry_of n a).0) s)))
+    by_phase (asks l) ok = free_or_not (eqb (holderHere (place_of l)) 0) refl
       where
         step_one : micro_step c (picture (asks l) (link_of c h)) (ownerHere (place_of l)) (holderHere (place_of l)) (read_word o.memory (place_of l))
             ≡ (if eqb (holderHere (place_of l)) 0 then moves (picture (holds l) (link_of c h)) (ownerHere (place_of l)) (written c) else waiting l)
         step_one = ask_step c (link_of c h) (ownerHere (place_of l)) (holderHere (place_of l)) (read_word o.memory (place_of l)) l
 
-        free-or-not : (t : Bool) → eqb (holderHere (place_of l)) 0 ≡ t → After (step c) (act o (step c))
-        free-or-not true e =
-            let there = entry-there (place_of l) in
+        free_or_not : (t : Bool) → eqb (holderHere (place_of l)) 0 ≡ t → After (step c) (act o (step c))
+        free_or_not true e =
+            let there = entry_there (place_of l) in
             let none = eqb-true (holderHere (place_of l)) 0 e in
-            leaves-stepped (picture (asks l) (link_of c h)) (moves (picture (holds l) (link_of c h)) (ownerHere (place_of l)) (written c)) ok.core (step_one ∙ rw e)
+            leaves_stepped (picture (asks l) (link_of c h)) (moves (picture (holds l) (link_of c h)) (ownerHere (place_of l)) (written c)) ok.core (step_one ∙ rw e)
             (lock_next n zeros o h ws gs ds inv c small accepted.core_below (entry_of n (place_of l)).0 there.1 there.2 (inl none) l refl there.0 none ok)
-        free-or-not false e =
-            leaves-stepped (picture (asks l) (link_of c h)) (waiting l) ok.core (step_one ∙ rw e) (λ s. subst (After (step c)) (sym (waited l ok.core)) waits-next)
-    by-phase (holds l) ok =
-        let there = entry-there (place_of l) in
-        leaves-stepped (picture (holds l) (link_of c h)) _ ok.core (hold_step c (link_of c h) (ownerHere (place_of l)) (holderHere (place_of l)) (read_word o.memory (place_of l)) l)
+        free_or_not false e =
+            leaves_stepped (picture (asks l) (link_of c h)) (waiting l) ok.core (step_one ∙ rw e) (λ s. subst (After (step c)) (sym (waited l ok.core)) waits_next)
+    by_phase (holds l) ok =
+        let there = entry_there (place_of l) in
+        leaves_stepped (picture (holds l) (link_of c h)) _ ok.core (hold_step c (link_of c h) (ownerHere (place_of l)) (holderHere (place_of l)) (read_word o.memory (place_of l)) l)
         (mark_next n zeros o h ws gs ds inv c small accepted.core_below (entry_of n (place_of l)).0 there.1 there.2 (inr ok.table.0) l refl ok ok.table)
-    by-phase (reaches l passed) ok =
-        let there = entry-there (place_of l) in
-        leaves-stepped (picture (reaches l passed) (link_of c h)) _ ok.core (reach_step c (link_of c h) (ownerHere (place_of l)) (holderHere (place_of l)) (read_word o.memory (place_of l)) l passed)
+    by_phase (reaches l passed) ok =
+        let there = entry_there (place_of l) in
+        leaves_stepped (picture (reaches l passed) (link_of c h)) _ ok.core (reach_step c (link_of c h) (ownerHere (place_of l)) (holderHere (place_of l)) (read_word o.memory (place_of l)) l passed)
         (access_next n zeros o h ws gs ds inv c small accepted.core_below (entry_of n (place_of l)).0 there.1 there.2 (inr ok.table.0) l passed refl ok (ok.table.0, ok.table.1)
         (judged_right (entry_of n) h c l passed ok.table.2))
-    by-phase (leaves l passed read) ok =
-        let there = entry-there (place_of l) in
-        leaves-stepped (picture (leaves l passed read) (link_of c h)) _ ok.core (leave_step_lem c (link_of c h) (ownerHere (place_of l)) (holderHere (place_of l)) (read_word o.memory (place_of l)) l passed read)
+    by_phase (leaves l passed read) ok =
+        let there = entry_there (place_of l) in
+        leaves_stepped (picture (leaves l passed read) (link_of c h)) _ ok.core (leave_step_lem c (link_of c h) (ownerHere (place_of l)) (holderHere (place_of l)) (read_word o.memory (place_of l)) l passed read)
         (leave_next n zeros o h ws gs ds inv c small accepted.core_below (entry_of n (place_of l)).0 there.1 there.2 (inr ok.table.0) l passed read refl ok ok.table)
 
-  next-step : (c : ℕ) → After (step c) (act o (step c))
-  next-step c =
+  next_step : (c : ℕ) → After (step c) (act o (step c))
+  next_step c =
       by_zero (After (step c) (act o (step c))) (step_refusal o.called.machine (length o.memory) o.owners o.holders c)
-      (λ z. by-phase c z (inv.phase c) (inv.cores c))
-      (λ d. leaves-as (step c) _ (step-refused o c d) (λ s. refused-step c (step_refusal o.called.machine (length o.memory) o.owners o.holders c)))
+      (λ z. by_phase c z (inv.phase c) (inv.cores c))
+      (λ d. leaves_as (step c) _ (step_refused o c d) (λ s. refused_step c (step_refusal o.called.machine (length o.memory) o.owners o.holders c)))
 
   pub next : (call : Call) → After call (act o call)
-  next (give c op) = next-give c op
-  next (step c) = next-step c
-  next (poke a v) = next-poke a v
+  next (give c op) = next_give c op
+  next (step c) = next_step c
+  next (poke a v) = next_poke a v
 
 -- the fresh machine
 zero_anywhere : (k e : ℕ) → ◌≡◌ {A = ℕ} (get_or (replicate k 0) e 0) 0

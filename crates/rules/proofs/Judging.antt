@@ -58,25 +58,25 @@ module _ (entry : GuestAddress → EntryNumber) (c : ℕ) (a : GuestAddress) whe
   ownerHere owner = eqb owner (written c)
 
   -- what another core's mark, or none, is not
-  not-mine : (k : ℕ) → (k ≡ c → ⊥) → ownerHere (written k) ≡ false
-  not-mine k other = ne_eqb (written k) (written c) (λ e. other (omega arith))
+  not_mine : (k : ℕ) → (k ≡ c → ⊥) → ownerHere (written k) ≡ false
+  not_mine k other = ne_eqb (written k) (written c) (λ e. other (omega arith))
 
   no_mark : ownerHere 0 ≡ false
   no_mark = ne_eqb 0 (written c) (λ e. omega arith)
 
   -- a store leaves the question of this core's mark as it was if the store is this core's, and else answers it by no
-  own-store : (k owner : ℕ) → k ≡ c → ownerHere (if eqb owner (written k) then owner else 0) ≡ ownerHere owner
-  own-store k owner e = go (eqb owner (written k)) refl
+  own_store : (k owner : ℕ) → k ≡ c → ownerHere (if eqb owner (written k) then owner else 0) ≡ ownerHere owner
+  own_store k owner e = go (eqb owner (written k)) refl
     where
       go : (t : Bool) → eqb owner (written k) ≡ t → ownerHere (if t then owner else 0) ≡ ownerHere owner
       go true p = refl
       go false p = no_mark ∙ sym (ne_eqb owner (written c) (λ q. eqb-false owner (written k) p (q ∙ ap written (sym e))))
 
-  other-store : (k owner : ℕ) → (k ≡ c → ⊥) → ownerHere (if eqb owner (written k) then owner else 0) ≡ false
-  other-store k owner other = go (eqb owner (written k)) refl
+  other_store : (k owner : ℕ) → (k ≡ c → ⊥) → ownerHere (if eqb owner (written k) then owner else 0) ≡ false
+  other_store k owner other = go (eqb owner (written k)) refl
     where
       go : (t : Bool) → eqb owner (written k) ≡ t → ownerHere (if t then owner else 0) ≡ false
-      go true p = ap ownerHere (eqb-true owner (written k) p) ∙ not-mine k other
+      go true p = ap ownerHere (eqb-true owner (written k) p) ∙ not_mine k other
       go false p = no_mark
 
   -- one access more, by the tests that the three functions make of it
@@ -101,22 +101,22 @@ module _ (entry : GuestAddress → EntryNumber) (c : ℕ) (a : GuestAddress) whe
     mine false three four true same success e s = refl
     mine false three true false same success e s = absurd (false≢true (success refl))
     mine false three false false false success e s = ih
-    mine false true false false true success e s = rw (own-store r.core (owner_of entry (entry a).0 h) e) ih
+    mine false true false false true success e s = rw (own_store r.core (owner_of entry (entry a).0 h) e) ih
     mine false false false false true success e s = ih
 
     theirs : (two three four ends same : Bool) → (r.core ≡ c → ⊥) → Claim false two three four ends same
     theirs two three four ends false e = rw (and_no (two || (three || four))) ih
-    theirs true three four ends true e = rw (not-mine r.core e) (sym (and_no (linkThere (link_of c h))))
-    theirs false true four ends true e = rw (other-store r.core (owner_of entry (entry a).0 h) e) (sym (and_no (linkThere (link_of c h))))
+    theirs true three four ends true e = rw (not_mine r.core e) (sym (and_no (linkThere (link_of c h))))
+    theirs false true four ends true e = rw (other_store r.core (owner_of entry (entry a).0 h) e) (sym (and_no (linkThere (link_of c h))))
     theirs false false true ends true e = rw no_mark (sym (and_no (linkThere (link_of c h))))
     theirs false false false ends true e = ih
 
     -- a successful sc is an sc
-    success-unlinks : eqb r.kind 4 ≡ true → unlinks_kind r.kind ≡ true
-    success-unlinks p = rw p
+    success_unlinks : eqb r.kind 4 ≡ true → unlinks_kind r.kind ≡ true
+    success_unlinks p = rw p
 
     whose : (own : Bool) → eqb r.core c ≡ own → Claim own (eqb r.kind 2) (eqb r.kind 3) (eqb r.kind 4) (unlinks_kind r.kind) (eqb (entry r.address).0 (entry a).0)
-    whose true e = mine (eqb r.kind 2) (eqb r.kind 3) (eqb r.kind 4) (unlinks_kind r.kind) (eqb (entry r.address).0 (entry a).0) success-unlinks (eqb-true r.core c e) refl
+    whose true e = mine (eqb r.kind 2) (eqb r.kind 3) (eqb r.kind 4) (unlinks_kind r.kind) (eqb (entry r.address).0 (entry a).0) success_unlinks (eqb-true r.core c e) refl
     whose false e = theirs (eqb r.kind 2) (eqb r.kind 3) (eqb r.kind 4) (unlinks_kind r.kind) (eqb (entry r.address).0 (entry a).0) (eqb-false r.core c e)
 
   pub link_and_owner : (h : History) → succeeds entry c a h ≡ linkThere (link_of c h) && ownerHere (owner_of entry (entry a).0 h)

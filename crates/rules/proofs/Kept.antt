@@ -54,13 +54,13 @@ resting_fits {bytes = bytes} c l f =
 
 -- a busy core in the middle of an operation: what of the old core bears on the new one, and what is new
 module _ {count bytes i : ℕ} (c : Core) (l : i < count) (f : Fits count bytes i c) (b : c.busy ≡ true) where
-  address-inside : inside bytes c.address ≡ true
-  address-inside =
+  address_inside : inside bytes c.address ≡ true
+  address_inside =
       in_use c.busy (inside bytes c.address) b
       (and₂ (not c.busy || inside bytes c.address) (not c.linked || inside bytes c.link) f.addresses_fit_lem).0
 
-  link-inside : not c.linked || inside bytes c.link ≡ true
-  link-inside = (and₂ (not c.busy || inside bytes c.address) (not c.linked || inside bytes c.link) f.addresses_fit_lem).1
+  link_inside : not c.linked || inside bytes c.link ≡ true
+  link_inside = (and₂ (not c.busy || inside bytes c.address) (not c.linked || inside bytes c.link) f.addresses_fit_lem).1
 
   occurs : (operation_occurs c.operation ≡ true) × (step_occurs c.operation c.next ≡ true)
   occurs = and₂ (operation_occurs c.operation) (step_occurs c.operation c.next) (in_use c.busy _ b f.operation_fits_lem)
@@ -75,44 +75,44 @@ module _ {count bytes i : ℕ} (c : Core) (l : i < count) (f : Fits count bytes 
   onward : (c' : Core) → c'.busy ≡ c.busy → c'.operation ≡ c.operation → c'.address ≡ c.address → step_occurs c.operation c'.next ≡ true → value_fields c' ≡ true → link_fields c' ≡ true
       → not c'.linked || inside bytes c'.link ≡ true → core_fits count bytes i c' ≡ true
   onward c' busy op address step value link near =
-      middle c' (busy ∙ b) (ap operation_occurs op ∙ occurs.0) (ap (λ (k : ℕ). step_occurs k c'.next) op ∙ step) value link (ap (inside bytes) address ∙ address-inside) near
+      middle c' (busy ∙ b) (ap operation_occurs op ∙ occurs.0) (ap (λ (k : ℕ). step_occurs k c'.next) op ∙ step) value link (ap (inside bytes) address ∙ address_inside) near
 
   -- every operation but a load has the steps 2 to 4
-  has-step : (next : ℕ) → leb 2 next ≡ true → leb next 4 ≡ true → is_load c.operation ≡ false → step_occurs c.operation next ≡ true
-  has-step next low high o = rw (o, low, high) (or_true (eqb next 1))
+  has_step : (next : ℕ) → leb 2 next ≡ true → leb next 4 ≡ true → is_load c.operation ≡ false → step_occurs c.operation next ≡ true
+  has_step next low high o = rw (o, low, high) (or_true (eqb next 1))
 
   module _ (o : is_load c.operation ≡ false) where
     locked : (c.operation ≡ 2) ⊎ ((c.operation ≡ 3) ⊎ (c.operation ≡ 4))
     locked = which c.operation occurs.0 o
 
-    lock-kept : c.next ≡ 1 → core_fits count bytes i (advanced c 2) ≡ true
-    lock-kept n =
-        onward (advanced c 2) refl refl refl (has-step 2 refl refl o)
+    lock_kept : c.next ≡ 1 → core_fits count bytes i (advanced c 2) ≡ true
+    lock_kept n =
+        onward (advanced c 2) refl refl refl (has_step 2 refl refl o)
         (⊎_elim (λ k. rw (b, k) (rw (b, k, n) at f.value_fields_lem)) (⊎_elim (λ k. rw (b, k) (rw (b, k, n) at f.value_fields_lem)) (λ k. rw (b, k) (rw (b, k, n) at f.value_fields_lem))) locked)
-        f.link_fields_lem link-inside
+        f.link_fields_lem link_inside
 
-    mark-kept : c.next ≡ 2 → (c.operation ≡ 2) ⊎ (c.operation ≡ 3) → core_fits count bytes i (advanced c 3) ≡ true
-    mark-kept n w =
-        onward (advanced c 3) refl refl refl (has-step 3 refl refl o)
+    mark_kept : c.next ≡ 2 → (c.operation ≡ 2) ⊎ (c.operation ≡ 3) → core_fits count bytes i (advanced c 3) ≡ true
+    mark_kept n w =
+        onward (advanced c 3) refl refl refl (has_step 3 refl refl o)
         (⊎_elim (λ (k : c.operation ≡ 2). rw (b, k) (rw (b, k, n) at f.value_fields_lem)) (λ (k : c.operation ≡ 3). rw (b, k) (rw (b, k) at f.value_fields_lem)) w)
-        f.link_fields_lem link-inside
+        f.link_fields_lem link_inside
 
-    judged-kept : (passed : Bool) → c.next ≡ 2 → c.operation ≡ 4 → core_fits count bytes i (judged c passed) ≡ true
-    judged-kept passed n k =
-        onward (judged c passed) refl refl refl (has-step 3 refl refl o)
+    judged_kept : (passed : Bool) → c.next ≡ 2 → c.operation ≡ 4 → core_fits count bytes i (judged c passed) ≡ true
+    judged_kept passed n k =
+        onward (judged c passed) refl refl refl (has_step 3 refl refl o)
         (rw (b, k, (and₂ (eqb c.read 0) (not c.passed) (rw (b, k, n) at f.value_fields_lem)).0))
-        f.link_fields_lem link-inside
+        f.link_fields_lem link_inside
 
-    ll-kept : (word : ℕ) → c.next ≡ 3 → c.operation ≡ 2 → core_fits count bytes i (ll_access i c 0 0 word).core ≡ true
-    ll-kept word n k =
+    ll_kept : (word : ℕ) → c.next ≡ 3 → c.operation ≡ 2 → core_fits count bytes i (ll_access i c 0 0 word).core ≡ true
+    ll_kept word n k =
         let old = and₃ (eqb c.value 0) (eqb c.read 0) (not c.passed) (rw (b, k, n) at f.value_fields_lem) in
-        onward (ll_access i c 0 0 word).core refl refl refl (has-step 4 refl refl o) (rw (b, k, old.0, old.2)) refl address-inside
+        onward (ll_access i c 0 0 word).core refl refl refl (has_step 4 refl refl o) (rw (b, k, old.0, old.2)) refl address_inside
 
     store_kept : c.next ≡ 3 → c.operation ≡ 3 → core_fits count bytes i (advanced c 4) ≡ true
-    store_kept n k = onward (advanced c 4) refl refl refl (has-step 4 refl refl o) (rw (b, k) (rw (b, k) at f.value_fields_lem)) f.link_fields_lem link-inside
+    store_kept n k = onward (advanced c 4) refl refl refl (has_step 4 refl refl o) (rw (b, k) (rw (b, k) at f.value_fields_lem)) f.link_fields_lem link_inside
 
-    sc-kept : c.next ≡ 3 → c.operation ≡ 4 → core_fits count bytes i (sc_access i c 0 0).core ≡ true
-    sc-kept n k = onward (sc_access i c 0 0).core refl refl refl (has-step 4 refl refl o) (rw (b, k) (rw (b, k, n) at f.value_fields_lem)) (search f.link_fields_lem) (search link-inside)
+    sc_kept : c.next ≡ 3 → c.operation ≡ 4 → core_fits count bytes i (sc_access i c 0 0).core ≡ true
+    sc_kept n k = onward (sc_access i c 0 0).core refl refl refl (has_step 4 refl refl o) (rw (b, k) (rw (b, k, n) at f.value_fields_lem)) (search f.link_fields_lem) (search link_inside)
 
 -- by a choice's test, with what it says
 pub of_cases : {A : Type 0} (P : A → Type 0) (t : Bool) {a b : A} → (t ≡ true → P a) → (t ≡ false → P b) → P (if t then a else b)
@@ -125,15 +125,15 @@ pub micro_kept : (count bytes me : ℕ) (c : Core) (owner holder word : ℕ) →
 unfolding micro_step load_step lock_step mark_step access_step
 micro_kept count bytes me c owner holder word l h b =
     of_cases P (is_load c.operation) (λ o. resting_fits c l f) (λ o.
-    of_cases P (eqb c.next 1) (λ n. of_both P (eqb holder 0) (lock-kept c l f b o (eqb-true _ _ n)) h) (λ n₁.
+    of_cases P (eqb c.next 1) (λ n. of_both P (eqb holder 0) (lock_kept c l f b o (eqb-true _ _ n)) h) (λ n₁.
     of_cases P (eqb c.next 2)
     (λ n. let e = eqb-true _ _ n in
-    of_cases P (is_ll c.operation) (λ k. mark-kept c l f b o e (inl (eqb-true _ _ k))) (λ k₂.
-    of_cases P (is_store c.operation) (λ k. mark-kept c l f b o e (inr (eqb-true _ _ k))) (λ k₃. judged-kept c l f b o (passes me c owner) e (the-sc o k₂ k₃)))) (λ n₂.
+    of_cases P (is_ll c.operation) (λ k. mark_kept c l f b o e (inl (eqb-true _ _ k))) (λ k₂.
+    of_cases P (is_store c.operation) (λ k. mark_kept c l f b o e (inr (eqb-true _ _ k))) (λ k₃. judged_kept c l f b o (passes me c owner) e (the_sc o k₂ k₃)))) (λ n₂.
     of_cases P (eqb c.next 3)
     (λ n. let e = eqb-true _ _ n in
-    of_cases P (is_ll c.operation) (λ k. ll-kept c l f b o word e (eqb-true _ _ k)) (λ k₂.
-    of_cases P (is_store c.operation) (λ k. store_kept c l f b o e (eqb-true _ _ k)) (λ k₃. sc-kept c l f b o e (the-sc o k₂ k₃)))) (λ n₃. resting_fits c l f))))
+    of_cases P (is_ll c.operation) (λ k. ll_kept c l f b o word e (eqb-true _ _ k)) (λ k₂.
+    of_cases P (is_store c.operation) (λ k. store_kept c l f b o e (eqb-true _ _ k)) (λ k₃. sc_kept c l f b o e (the_sc o k₂ k₃)))) (λ n₃. resting_fits c l f))))
   where
     P : MicroStep → Type 0
     P s = core_fits count bytes me s.core ≡ true
@@ -141,8 +141,8 @@ micro_kept count bytes me c owner holder word l h b =
     f : Fits count bytes me c
     f = fits count bytes me c h
 
-    the-sc : is_load c.operation ≡ false → is_ll c.operation ≡ false → is_store c.operation ≡ false → c.operation ≡ 4
-    the-sc o k₂ k₃ = ⊎_elim (λ k. absurd (eqb-false c.operation 2 k₂ k)) (⊎_elim (λ k. absurd (eqb-false c.operation 3 k₃ k)) (λ k. k)) (locked c l f b o)
+    the_sc : is_load c.operation ≡ false → is_ll c.operation ≡ false → is_store c.operation ≡ false → c.operation ≡ 4
+    the_sc o k₂ k₃ = ⊎_elim (λ k. absurd (eqb-false c.operation 2 k₂ k)) (⊎_elim (λ k. absurd (eqb-false c.operation 3 k₃ k)) (λ k. k)) (locked c l f b o)
 
 -- an operation given
 pub given_kept : {count bytes : ℕ} (i : ℕ) (c : Core) (o : Operation) → i < count → core_fits count bytes i c ≡ true → Inside bytes (address_of o) → core_fits count bytes i (given c o) ≡ true
@@ -152,7 +152,7 @@ given_kept {count} {bytes} i c o l h at =
       operation_fields_lem = refl;
       value_fields_lem = value o;
       link_fields_lem = f.link_fields_lem;
-      operation_fits_lem = occurs-given o;
+      operation_fits_lem = occurs_given o;
       addresses_fit_lem = rw (eq-eqb _ _ at.aligned, lt-ltb _ _ at.below) (and₂ (not c.busy || inside bytes c.address) (not c.linked || inside bytes c.link) f.addresses_fit_lem).1;
       place_fits_lem = placed (given c o) l;
     })
@@ -166,11 +166,11 @@ given_kept {count} {bytes} i c o l h at =
     value (Store a v) = refl
     value (Sc a v) = refl
 
-    occurs-given : (o : Operation) → operation_fits (given c o) ≡ true
-    occurs-given (Load a) = refl
-    occurs-given (Ll a) = refl
-    occurs-given (Store a v) = refl
-    occurs-given (Sc a v) = refl
+    occurs_given : (o : Operation) → operation_fits (given c o) ≡ true
+    occurs_given (Load a) = refl
+    occurs_given (Ll a) = refl
+    occurs_given (Store a v) = refl
+    occurs_given (Sc a v) = refl
 
 -- what holds of each number below n
 all_below_lem : (n : ℕ) (test : ℕ → Bool) → ((i : ℕ) → i < n → test i ≡ true) → all_below n test ≡ true

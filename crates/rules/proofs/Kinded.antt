@@ -27,14 +27,14 @@ sc_unlinks true ll sc other = refl
 sc_unlinks false ll sc other = refl
 
 module _ (me : ℕ) (c : Core) (owner holder word : ℕ) where
-  at-ll : c.operation ≡ 2 → ByKind c (ll_access me c owner holder word)
-  at-ll k = record { writes = rw k; linked = rw k; link = rw k }
+  at_ll : c.operation ≡ 2 → ByKind c (ll_access me c owner holder word)
+  at_ll k = record { writes = rw k; linked = rw k; link = rw k }
 
   at_store : c.operation ≡ 3 → ByKind c (store_access me c owner holder)
   at_store k = record { writes = rw k; linked = rw k; link = rw k }
 
-  at-sc : c.operation ≡ 4 → ByKind c (sc_access me c owner holder)
-  at-sc k = record { writes = rw k (sc_writes c.passed); linked = rw k (sc_unlinks c.passed true false c.linked); link = rw k (sc_unlinks c.passed c.address nowhere c.link) }
+  at_sc : c.operation ≡ 4 → ByKind c (sc_access me c owner holder)
+  at_sc k = record { writes = rw k (sc_writes c.passed); linked = rw k (sc_unlinks c.passed true false c.linked); link = rw k (sc_unlinks c.passed c.address nowhere c.link) }
 
   by_kind : operation_occurs c.operation ≡ true → ByKind c (micro_step me c owner holder word)
   unfolding micro_step load_step lock_step mark_step access_step
@@ -44,14 +44,14 @@ module _ (me : ℕ) (c : Core) (owner holder word : ℕ) where
       (of_both P (eqb c.next 2)
       (of_both P (is_ll c.operation) (record { writes = refl; linked = refl; link = refl }) (of_both P (is_store c.operation) (record { writes = refl; linked = refl; link = refl }) (record { writes = refl; linked = refl; link = refl })))
       (of_both P (eqb c.next 3)
-      (of_cases P (is_ll c.operation) (λ k. at-ll (eqb-true _ _ k)) (λ k₂. of_cases P (is_store c.operation) (λ k. at_store (eqb-true _ _ k)) (λ k₃. at-sc (the-sc o k₂ k₃))))
+      (of_cases P (is_ll c.operation) (λ k. at_ll (eqb-true _ _ k)) (λ k₂. of_cases P (is_store c.operation) (λ k. at_store (eqb-true _ _ k)) (λ k₃. at_sc (the_sc o k₂ k₃))))
       (record { writes = refl; linked = refl; link = refl }))))
     where
       P : MicroStep → Type 0
       P s = ByKind c s
 
-      the-sc : is_load c.operation ≡ false → is_ll c.operation ≡ false → is_store c.operation ≡ false → c.operation ≡ 4
-      the-sc o k₂ k₃ = ⊎_elim (λ k. absurd (eqb-false c.operation 2 k₂ k)) (⊎_elim (λ k. absurd (eqb-false c.operation 3 k₃ k)) (λ k. k)) (which c.operation occurs o)
+      the_sc : is_load c.operation ≡ false → is_ll c.operation ≡ false → is_store c.operation ≡ false → c.operation ≡ 4
+      the_sc o k₂ k₃ = ⊎_elim (λ k. absurd (eqb-false c.operation 2 k₂ k)) (⊎_elim (λ k. absurd (eqb-false c.operation 3 k₃ k)) (λ k. k)) (which c.operation occurs o)
 
 pub kind_laws : KindLaws
 kind_laws =

@@ -27,15 +27,15 @@ entry_laws = record { below = entry_below; one_word = λ entries a b fit e. λ i
 
 -- what holds of a call that is refused, and of one that is not, from what its rule does in either case
 module _ {A : Type 0} (answer : A → Answer) (P : A → Type 0) (n : ℕ) (refusal : ℕ → A) (done : A) where
-  if-refused : number_of (answer done) ≡ 0 → ((k : ℕ) → P (refusal k)) → (number_of (answer (unless_refused n refusal done)) ≡ 0 → ⊥) → P (unless_refused n refusal done)
-  if-refused quiet holds not-zero = go (eqb n 0) not-zero
+  if_refused : number_of (answer done) ≡ 0 → ((k : ℕ) → P (refusal k)) → (number_of (answer (unless_refused n refusal done)) ≡ 0 → ⊥) → P (unless_refused n refusal done)
+  if_refused quiet holds not-zero = go (eqb n 0) not-zero
     where
       go : (t : Bool) → (number_of (answer (if t then done else refusal n)) ≡ 0 → ⊥) → P (if t then done else refusal n)
       go true f = absurd (f quiet)
       go false f = holds n
 
-  if-accepted : number_of (answer (refusal n)) ≡ n → (n ≡ 0 → P done) → number_of (answer (unless_refused n refusal done)) ≡ 0 → P (unless_refused n refusal done)
-  if-accepted loud holds zero = go (eqb n 0) refl zero
+  if_accepted : number_of (answer (refusal n)) ≡ n → (n ≡ 0 → P done) → number_of (answer (unless_refused n refusal done)) ≡ 0 → P (unless_refused n refusal done)
+  if_accepted loud holds zero = go (eqb n 0) refl zero
     where
       go : (t : Bool) → eqb n 0 ≡ t → number_of (answer (if t then done else refusal n)) ≡ 0 → P (if t then done else refusal n)
       go true e z = holds (eqb-true n 0 e)
@@ -50,20 +50,20 @@ unfolding start_of give_of step_of stepped micro_step_at poke_of show_of
 refusal_laws =
     record {
       start_as_found = λ count memory owners holders.
-          if-refused (λ (o : Outcome). o.called.answer) (λ (o : Outcome). AsFound o (all_idle 0 0 0) memory owners holders) (start_refusal count (length memory) (length owners) (length holders))
+          if_refused (λ (o : Outcome). o.called.answer) (λ (o : Outcome). AsFound o (all_idle 0 0 0) memory owners holders) (start_refusal count (length memory) (length owners) (length holders))
           (λ k. outcome (refused k (all_idle 0 0 0)) memory owners holders) (started count memory owners holders) refl (λ k. as_found k (all_idle 0 0 0) memory owners holders);
       give_as_found = λ m core o memory owners holders.
-          if-refused (λ (r : Called). r.answer) (λ (r : Called). AsFound (outcome r memory owners holders) m memory owners holders) (give_refusal m core o)
+          if_refused (λ (r : Called). r.answer) (λ (r : Called). AsFound (outcome r memory owners holders) m memory owners holders) (give_refusal m core o)
           (λ k. refused k m) (taken m core o) refl (λ k. as_found k m memory owners holders);
       step_as_found = λ m memory owners holders core.
-          if-refused (λ (o : Outcome). o.called.answer) (λ (o : Outcome). AsFound o m memory owners holders) (step_refusal m (length memory) owners holders core)
+          if_refused (λ (o : Outcome). o.called.answer) (λ (o : Outcome). AsFound o m memory owners holders) (step_refusal m (length memory) owners holders core)
           (λ k. outcome (refused k m) memory owners holders) (stepped m memory owners holders core (micro_step_at m memory owners holders core))
           (micro_number core (core_at m core) (mark_at owners (entry_at m core)) (mark_at holders (entry_at m core)) (read_word memory (core_at m core).address)) (λ k. as_found k m memory owners holders);
       poke_as_found = λ m memory a value owners holders.
-          if-refused (λ (o : PokeOutcome). o.called.answer) (λ (o : PokeOutcome). AsFound (outcome o.called o.memory owners holders) m memory owners holders) (word_refusal m (length memory) a)
+          if_refused (λ (o : PokeOutcome). o.called.answer) (λ (o : PokeOutcome). AsFound (outcome o.called o.memory owners holders) m memory owners holders) (word_refusal m (length memory) a)
           (λ k. poke_outcome (refused k m) memory) (poked m memory a value) refl (λ k. as_found k m memory owners holders);
       show_as_found = λ m memory a owners holders.
-          if-refused (λ (r : Called). r.answer) (λ (r : Called). AsFound (outcome r memory owners holders) m memory owners holders) (word_refusal m (length memory) a)
+          if_refused (λ (r : Called). r.answer) (λ (r : Called). AsFound (outcome r memory owners holders) m memory owners holders) (word_refusal m (length memory) a)
           (λ k. refused k m) (answered (Word (read_word memory a)) m) refl (λ k. as_found k m memory owners holders);
     }
 
@@ -72,11 +72,11 @@ same_lengths : (m : Machine) (memory owners holders : ℕ) → memory ≡ m.byte
 same_lengths m memory owners holders p q r = rw (eq-eqb _ _ p, eq-eqb _ _ q, eq-eqb _ _ r)
 
 module _ (count : ℕ) (memory owners holders : List ℕ) where
-  started-if : (P : Outcome → Type 0) → (StartAccepted count (length memory) (length owners) (length holders) → P (started count memory owners holders))
+  started_if : (P : Outcome → Type 0) → (StartAccepted count (length memory) (length owners) (length holders) → P (started count memory owners holders))
       → number_of (start_of count memory owners holders).called.answer ≡ 0 → P (start_of count memory owners holders)
   unfolding start_of
-  started-if P holds =
-      if-accepted (λ (o : Outcome). o.called.answer) P (start_refusal count (length memory) (length owners) (length holders)) (λ k. outcome (refused k (all_idle 0 0 0)) memory owners holders)
+  started_if P holds =
+      if_accepted (λ (o : Outcome). o.called.answer) P (start_refusal count (length memory) (length owners) (length holders)) (λ k. outcome (refused k (all_idle 0 0 0)) memory owners holders)
       (started count memory owners holders) refl (λ z. holds (start_accepted count (length memory) (length owners) (length holders) z))
 
   pub started_sound : StartAccepted count (length memory) (length owners) (length holders) → Sound (started count memory owners holders)
@@ -117,19 +117,19 @@ pub range_laws : RangeLaws
 unfolding give_of step_of poke_of
 range_laws =
     record {
-      start_sound = λ count memory owners holders. started-if count memory owners holders Sound (started_sound count memory owners holders);
-      start_idle = λ count memory owners holders. started-if count memory owners holders (λ (o : Outcome). o.called.machine.cores ≡ replicate 8 idle) (λ a. refl);
+      start_sound = λ count memory owners holders. started_if count memory owners holders Sound (started_sound count memory owners holders);
+      start_idle = λ count memory owners holders. started_if count memory owners holders (λ (o : Outcome). o.called.machine.cores ≡ replicate 8 idle) (λ a. refl);
       start_zero = λ count memory owners holders.
-          started-if count memory owners holders (λ (o : Outcome). (o.memory ≡ replicate (length memory) 0) × (o.owners ≡ replicate (length owners) 0) × (o.holders ≡ replicate (length owners) 0))
+          started_if count memory owners holders (λ (o : Outcome). (o.memory ≡ replicate (length memory) 0) × (o.owners ≡ replicate (length owners) 0) × (o.holders ≡ replicate (length owners) 0))
           (λ a. (refl, refl, ap (λ (n : ℕ). replicate n 0) a.tables));
       give_sound = λ m core o memory owners holders lent.
-          if-accepted (λ (r : Called). r.answer) (λ (r : Called). Sound (outcome r memory owners holders)) (give_refusal m core o) (λ k. refused k m) (taken m core o) refl
+          if_accepted (λ (r : Called). r.answer) (λ (r : Called). Sound (outcome r memory owners holders)) (give_refusal m core o) (λ k. refused k m) (taken m core o) refl
           (λ z. given_sound m core o memory owners holders lent (give_accepted m core o z));
       step_sound = λ m memory owners holders core.
-          if-accepted (λ (o : Outcome). o.called.answer) Sound (step_refusal m (length memory) owners holders core) (λ k. outcome (refused k m) memory owners holders)
+          if_accepted (λ (o : Outcome). o.called.answer) Sound (step_refusal m (length memory) owners holders core) (λ k. outcome (refused k m) memory owners holders)
           (stepped m memory owners holders core (micro_step_at m memory owners holders core)) refl (λ z. stepped_sound m memory owners holders core (step_accepted m (length memory) owners holders core z));
       poke_sound = λ m memory a value owners holders fit.
-          if-accepted (λ (o : PokeOutcome). o.called.answer) (λ (o : PokeOutcome). Sound (outcome o.called o.memory owners holders)) (word_refusal m (length memory) a)
+          if_accepted (λ (o : PokeOutcome). o.called.answer) (λ (o : PokeOutcome). Sound (outcome o.called o.memory owners holders)) (word_refusal m (length memory) a)
           (λ k. poke_outcome (refused k m) memory) (poked m memory a value) refl (λ z. poked_sound m memory a value owners holders fit (word_accepted m (length memory) a z));
     }
 

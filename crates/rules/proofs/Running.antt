@@ -115,19 +115,19 @@ module _ (n : ℕ) (zeros : List ℕ) (o x : Outcome) (h k : History) (ws vs : L
       (s.0, s.1 ∙ t.1 ∙ ap (marked i l) (sym s.2), t.2 ∙ ap (λ (q : Link). tested i l q (owner_of (entry_of n) (entry_of n (place_of l)).0 h)) (sym link) ∙ ap (tested i l (link_of i k)) (sym s.2))
   table_kept (leaves l passed read) link same t = let s = same (entry_of n (place_of l)).0 t.0 in (s.0, s.1 ∙ t.1 ∙ sym s.2)
 
-  lists-kept : (p : Phase) {gs gs' os os' : List Operation} {ds ds' ans ans' : List Answer} → gs' ≡ gs → ds' ≡ ds → os' ≡ os → ans' ≡ ans → ListsOk p gs ds os ans → ListsOk p gs' ds' os' ans'
-  lists-kept rests a b c d t = (a ∙ t.0 ∙ sym c, d ∙ t.1 ∙ sym b)
-  lists-kept (loads q) a b c d t = (a ∙ t.0 ∙ ap (λ (os : List Operation). Asked.Load q ∷ os) (sym c), d ∙ t.1 ∙ sym b)
-  lists-kept (asks l) a b c d t = (a ∙ t.0 ∙ ap (λ (os : List Operation). operation_of l ∷ os) (sym c), d ∙ t.1 ∙ sym b)
-  lists-kept (holds l) a b c d t = (a ∙ t.0 ∙ ap (λ (os : List Operation). operation_of l ∷ os) (sym c), d ∙ t.1 ∙ sym b)
-  lists-kept (reaches l passed) a b c d t = (a ∙ t.0 ∙ ap (λ (os : List Operation). operation_of l ∷ os) (sym c), d ∙ t.1 ∙ sym b)
-  lists-kept (leaves l passed read) a b c d t = (a ∙ t.0 ∙ sym c, d ∙ t.1 ∙ ap (λ (ds : List Answer). answer_at l passed read ∷ ds) (sym b))
+  lists_kept : (p : Phase) {gs gs' os os' : List Operation} {ds ds' ans ans' : List Answer} → gs' ≡ gs → ds' ≡ ds → os' ≡ os → ans' ≡ ans → ListsOk p gs ds os ans → ListsOk p gs' ds' os' ans'
+  lists_kept rests a b c d t = (a ∙ t.0 ∙ sym c, d ∙ t.1 ∙ sym b)
+  lists_kept (loads q) a b c d t = (a ∙ t.0 ∙ ap (λ (os : List Operation). Asked.Load q ∷ os) (sym c), d ∙ t.1 ∙ sym b)
+  lists_kept (asks l) a b c d t = (a ∙ t.0 ∙ ap (λ (os : List Operation). operation_of l ∷ os) (sym c), d ∙ t.1 ∙ sym b)
+  lists_kept (holds l) a b c d t = (a ∙ t.0 ∙ ap (λ (os : List Operation). operation_of l ∷ os) (sym c), d ∙ t.1 ∙ sym b)
+  lists_kept (reaches l passed) a b c d t = (a ∙ t.0 ∙ ap (λ (os : List Operation). operation_of l ∷ os) (sym c), d ∙ t.1 ∙ sym b)
+  lists_kept (leaves l passed read) a b c d t = (a ∙ t.0 ∙ sym c, d ∙ t.1 ∙ ap (λ (ds : List Answer). answer_at l passed read ∷ ds) (sym b))
 
   pub untouched : {gs gs' : List Operation} {ds ds' : List Answer} (p : Phase) → Untouched gs gs' ds ds' → CoreOk n zeros o h ws i p gs ds → CoreOk n zeros x k vs i p gs' ds'
   untouched p u ok =
       record {
         core = u.core_same ∙ ok.core ∙ ap (picture p) (sym u.link_same);
         table = table_kept p u.link_same u.inside_same ok.table;
-        lists = lists-kept p u.given_same u.delivered_same u.operations_same u.answers_same ok.lists;
+        lists = lists_kept p u.given_same u.delivered_same u.operations_same u.answers_same ok.lists;
         held = λ e q. ok.held e (u.back e q);
       }

@@ -32,29 +32,29 @@ use Rattle.rules.proofs.Running.{TableOk, ListsOk, CoreOk, Inv, Next, renew, at_
 
 -- the lists of a core, and of another, after one whole operation more
 module _ (entry : GuestAddress → EntryNumber) (zeros : List ℕ) (c : ℕ) (o : Operation) (ws : List Whole) where
-  operations-own : operations_of c (does c o ∷ ws) ≡ o ∷ operations_of c ws
+  operations_own : operations_of c (does c o ∷ ws) ≡ o ∷ operations_of c ws
   unfolding operations_of
-  operations-own = rw (eq-eqb c c refl)
+  operations_own = rw (eq-eqb c c refl)
 
-  answers-own : answers_of entry zeros c (does c o ∷ ws) ≡ (finish entry (refer entry zeros ws) c o).answer ∷ answers_of entry zeros c ws
+  answers_own : answers_of entry zeros c (does c o ∷ ws) ≡ (finish entry (refer entry zeros ws) c o).answer ∷ answers_of entry zeros c ws
   unfolding answers_of
-  answers-own = rw (eq-eqb c c refl)
+  answers_own = rw (eq-eqb c c refl)
 
-  operations-other : (i : ℕ) → (i ≡ c → ⊥) → operations_of i (does c o ∷ ws) ≡ operations_of i ws
+  operations_other : (i : ℕ) → (i ≡ c → ⊥) → operations_of i (does c o ∷ ws) ≡ operations_of i ws
   unfolding operations_of
-  operations-other i d = rw (ne_eqb c i (λ e. d (sym e)))
+  operations_other i d = rw (ne_eqb c i (λ e. d (sym e)))
 
-  answers-other : (i : ℕ) → (i ≡ c → ⊥) → answers_of entry zeros i (does c o ∷ ws) ≡ answers_of entry zeros i ws
+  answers_other : (i : ℕ) → (i ≡ c → ⊥) → answers_of entry zeros i (does c o ∷ ws) ≡ answers_of entry zeros i ws
   unfolding answers_of
-  answers-other i d = rw (ne_eqb c i (λ e. d (sym e)))
+  answers_other i d = rw (ne_eqb c i (λ e. d (sym e)))
 
-  refer-memory : (refer entry zeros (does c o ∷ ws)).memory ≡ (finish entry (refer entry zeros ws) c o).memory
+  refer_memory : (refer entry zeros (does c o ∷ ws)).memory ≡ (finish entry (refer entry zeros ws) c o).memory
   unfolding refer
-  refer-memory = refl
+  refer_memory = refl
 
-  refer-history : (refer entry zeros (does c o ∷ ws)).history ≡ (finish entry (refer entry zeros ws) c o).access ∷ (refer entry zeros ws).history
+  refer_history : (refer entry zeros (does c o ∷ ws)).history ≡ (finish entry (refer entry zeros ws) c o).access ∷ (refer entry zeros ws).history
   unfolding refer
-  refer-history = refl
+  refer_history = refl
 
 delivers_other : (i c : ℕ) (answer : Answer) (ds : List Answer) → (i ≡ c → ⊥) → delivers i (step c) answer ds ≡ ds
 delivers_other i c answer ds d = rw (ne_eqb c i (λ e. d (sym e)))
@@ -79,11 +79,11 @@ begun (Asked.Ll a) = asks (ll a)
 begun (Asked.Store a v) = asks (store a v)
 begun (Asked.Sc a v) = asks (sc a v)
 
-begun-picture : (o : Operation) (k : Link) → given (picture rests k) o ≡ picture (begun o) k
-begun-picture (Asked.Load a) k = refl
-begun-picture (Asked.Ll a) k = refl
-begun-picture (Asked.Store a v) k = refl
-begun-picture (Asked.Sc a v) k = refl
+begun_picture : (o : Operation) (k : Link) → given (picture rests k) o ≡ picture (begun o) k
+begun_picture (Asked.Load a) k = refl
+begun_picture (Asked.Ll a) k = refl
+begun_picture (Asked.Store a v) k = refl
+begun_picture (Asked.Sc a v) k = refl
 
 begun_table : (entry : GuestAddress → EntryNumber) (owners holders : List ℕ) (h : History) (i : ℕ) (o : Operation) → TableOk entry owners holders h i (begun o)
 begun_table entry owners holders h i (Asked.Load a) = tt
@@ -98,10 +98,10 @@ begun_lists (Asked.Store a v) p q = (p, q)
 begun_lists (Asked.Sc a v) p q = (p, q)
 
 -- what step 2 leaves for an owner is a mark of the machine
-marked-small : (c : ℕ) (l : Locked) (owner count : ℕ) → c < count → owner ≤ count → marked c l owner ≤ count
-marked-small c (ll a) owner count below small = omega arith
-marked-small c (store a v) owner count below small = of_both (λ (t : ℕ). t ≤ count) (eqb owner (written c)) small (omega arith)
-marked-small c (sc a v) owner count below small = small
+marked_small : (c : ℕ) (l : Locked) (owner count : ℕ) → c < count → owner ≤ count → marked c l owner ≤ count
+marked_small c (ll a) owner count below small = omega arith
+marked_small c (store a v) owner count below small = of_both (λ (t : ℕ). t ≤ count) (eqb owner (written c)) small (omega arith)
+marked_small c (sc a v) owner count below small = small
 
 owner_at_small : (l : Locked) (passed : Bool) (owner count : ℕ) → owner ≤ count → owner_at l passed owner ≤ count
 owner_at_small (ll a) passed owner count small = small
@@ -195,36 +195,36 @@ module _ (n : ℕ) (zeros : List ℕ) (o : Outcome) (h : History) (ws : List Who
         }
 
   -- the core at its place after it is renewed, and the others'
-  core-new : (c : ℕ) (y : Core) → c < 8 → core_at (with_core o.called.machine c y) c ≡ y
-  core-new c y l = get_or-set_same o.called.machine.cores c y idle (rw inv.eight l)
+  core_new : (c : ℕ) (y : Core) → c < 8 → core_at (with_core o.called.machine c y) c ≡ y
+  core_new c y l = get_or-set_same o.called.machine.cores c y idle (rw inv.eight l)
 
-  core-old : (c i : ℕ) (y : Core) → (i ≡ c → ⊥) → core_at (with_core o.called.machine c y) i ≡ core_at o.called.machine i
-  core-old c i y d = get_or-set_other o.called.machine.cores c i y idle d
+  core_old : (c i : ℕ) (y : Core) → (i ≡ c → ⊥) → core_at (with_core o.called.machine c y) i ≡ core_at o.called.machine i
+  core_old c i y d = get_or-set_other o.called.machine.cores c i y idle d
 
-  eight-new : (c : ℕ) (y : Core) → length (with_core o.called.machine c y).cores ≡ 8
-  eight-new c y = length-set o.called.machine.cores c y ∙ inv.eight
+  eight_new : (c : ℕ) (y : Core) → length (with_core o.called.machine c y).cores ≡ 8
+  eight_new c y = length-set o.called.machine.cores c y ∙ inv.eight
 
   -- an operation given to an idle core
-  idle-core : (c : ℕ) → (core_at o.called.machine c).busy ≡ false → CoreOk n zeros o h ws c rests (gs c) (ds c)
-  idle-core c b =
+  idle_core : (c : ℕ) → (core_at o.called.machine c).busy ≡ false → CoreOk n zeros o h ws c rests (gs c) (ds c)
+  idle_core c b =
       subst (λ (p : Phase). CoreOk n zeros o h ws c p (gs c) (ds c)) (rests_if (inv.phase c) (link_of c h) (ap (λ (y : Core). y.busy) (sym (inv.cores c).core) ∙ b)) (inv.cores c)
 
   pub given_next : (c : ℕ) (op : Operation) → c < 8 → (core_at o.called.machine c).busy ≡ false
       → Sound (outcome (answered Answered.Taken (with_core o.called.machine c (given (core_at o.called.machine c) op))) o.memory o.owners o.holders)
       → Next n zeros (give c op) h ws gs ds (outcome (answered Answered.Taken (with_core o.called.machine c (given (core_at o.called.machine c) op))) o.memory o.owners o.holders)
   given_next c op small b sound =
-      let old = idle-core c b in
+      let old = idle_core c b in
       let y = given (core_at o.called.machine c) op in
       renewed (outcome (answered Answered.Taken (with_core o.called.machine c y)) o.memory o.owners o.holders) h ws (λ i. taken i (give c op) Answered.Taken (gs i)) ds c (begun op)
-      sound (eight-new c y) inv.same inv.memory inv.history
+      sound (eight_new c y) inv.same inv.memory inv.history
       (record {
-        core = core-new c y small ∙ ap (λ (z : Core). given z op) old.core ∙ begun-picture op (link_of c h);
+        core = core_new c y small ∙ ap (λ (z : Core). given z op) old.core ∙ begun_picture op (link_of c h);
         table = begun_table (entry_of n) o.owners o.holders h c op;
         lists = begun_lists op (rw (eq-eqb c c refl) (ap (λ (os : List Operation). op ∷ os) old.lists.0)) old.lists.1;
         held = λ e q. absurd (old.held e q);
       })
       (λ i d. record {
-        core_same = core-old c i y d;
+        core_same = core_old c i y d;
         link_same = refl;
         operations_same = refl;
         answers_same = refl;
@@ -281,23 +281,23 @@ module _ (n : ℕ) (zeros : List ℕ) (o : Outcome) (h : History) (ws : List Who
       let word : w ≡ read_word (refer (entry_of n) zeros ws).memory a = ap (λ (m : List ℕ). read_word m a) inv.memory in
       subst (λ (op : Operation). Inv n zeros x (r ∷ h) (does c op ∷ ws) gs (λ i. delivers i (step c) (Answered.Load w) (ds i))) (sym (ap last_of old.lists.0))
       (renewed x (r ∷ h) vs gs (λ i. delivers i (step c) (Answered.Load w) (ds i)) c rests
-      sound (eight-new c y) inv.same
-      (inv.memory ∙ sym (refer-memory (entry_of n) zeros c (Asked.Load a) ws))
-      ((λ j. access_of c 1 a (word j) ∷ inv.history j) ∙ sym (refer-history (entry_of n) zeros c (Asked.Load a) ws))
+      sound (eight_new c y) inv.same
+      (inv.memory ∙ sym (refer_memory (entry_of n) zeros c (Asked.Load a) ws))
+      ((λ j. access_of c 1 a (word j) ∷ inv.history j) ∙ sym (refer_history (entry_of n) zeros c (Asked.Load a) ws))
       (record {
-        core = core-new c y small ∙ ap (picture rests) (sym (link_quiet c r h refl refl));
+        core = core_new c y small ∙ ap (picture rests) (sym (link_quiet c r h refl refl));
         table = tt;
         lists = (
-          old.lists.0 ∙ sym (operations-own (entry_of n) zeros c (Asked.Load a) ws),
-          answers-own (entry_of n) zeros c (Asked.Load a) ws ∙ rw (eq-eqb c c refl) (λ j. Answered.Load (sym word j) ∷ old.lists.1 j),
+          old.lists.0 ∙ sym (operations_own (entry_of n) zeros c (Asked.Load a) ws),
+          answers_own (entry_of n) zeros c (Asked.Load a) ws ∙ rw (eq-eqb c c refl) (λ j. Answered.Load (sym word j) ∷ old.lists.1 j),
         );
         held = λ e q. absurd (old.held e q);
       })
       (λ i d. record {
-        core_same = core-old c i y d;
+        core_same = core_old c i y d;
         link_same = link_quiet i r h refl refl;
-        operations_same = operations-other (entry_of n) zeros c (Asked.Load a) ws i d;
-        answers_same = answers-other (entry_of n) zeros c (Asked.Load a) ws i d;
+        operations_same = operations_other (entry_of n) zeros c (Asked.Load a) ws i d;
+        answers_same = answers_other (entry_of n) zeros c (Asked.Load a) ws i d;
         given_same = refl;
         delivered_same = delivers_other i c (Answered.Load w) (ds i) d;
         inside_same = λ e q. (q, refl, owner_quiet (entry_of n) e r h refl refl refl);
@@ -318,14 +318,14 @@ module _ (n : ℕ) (zeros : List ℕ) (o : Outcome) (h : History) (ws : List Who
         let here : get_or o.holders e₀ 0 ≡ written i = ap (λ (k : ℕ). get_or o.holders k 0) (sym at) ∙ q in
         ⊎_elim (λ z. no_mark i (sym z ∙ here)) (λ z. marks_differ i c d (sym here ∙ z)) mine
 
-    owner-new : (owner : ℕ) → get_or (set o.owners e₀ owner) e₀ 0 ≡ owner
-    owner-new owner = get_or-set_same o.owners e₀ owner 0 owner_there
+    owner_new : (owner : ℕ) → get_or (set o.owners e₀ owner) e₀ 0 ≡ owner
+    owner_new owner = get_or-set_same o.owners e₀ owner 0 owner_there
 
-    holder-new : (holder : ℕ) → get_or (set o.holders e₀ holder) e₀ 0 ≡ holder
-    holder-new holder = get_or-set_same o.holders e₀ holder 0 holder_there
+    holder_new : (holder : ℕ) → get_or (set o.holders e₀ holder) e₀ 0 ≡ holder
+    holder_new holder = get_or-set_same o.holders e₀ holder 0 holder_there
 
-    mark-small : (mark : ℕ) → (mark ≡ 0) ⊎ (mark ≡ written c) → mark ≤ o.called.machine.count
-    mark-small mark m = ⊎_elim (λ (z : mark ≡ 0). omega arith) (λ (z : mark ≡ written c). omega arith) m
+    mark_small : (mark : ℕ) → (mark ≡ 0) ⊎ (mark ≡ written c) → mark ≤ o.called.machine.count
+    mark_small mark m = ⊎_elim (λ (z : mark ≡ 0). omega arith) (λ (z : mark ≡ written c). omega arith) m
 
     inner : (answer : Answer) (made : Handed) (y : Core) (memory : List ℕ) (owner holder : ℕ) (k : History) (vs : List Whole) (ds' : ℕ → List Answer) (p : Phase)
         → Sound (left answer made y memory owner holder) → memory ≡ (refer (entry_of n) zeros vs).memory → k ≡ (refer (entry_of n) zeros vs).history
@@ -336,9 +336,9 @@ module _ (n : ℕ) (zeros : List ℕ) (o : Outcome) (h : History) (ws : List Who
         → CoreOk n zeros (left answer made y memory owner holder) k vs c p (gs c) (ds' c)
         → Inv n zeros (left answer made y memory owner holder) k vs gs ds'
     inner answer made y memory owner holder k vs ds' p sound mem hist owner-small holder-is freed links owners ops answers delivered new =
-        renewed (left answer made y memory owner holder) k vs gs ds' c p sound (eight-new c y) inv.same mem hist new
+        renewed (left answer made y memory owner holder) k vs gs ds' c p sound (eight_new c y) inv.same mem hist new
         (λ i d. record {
-          core_same = core-old c i y d;
+          core_same = core_old c i y d;
           link_same = links i d;
           operations_same = ops i d;
           answers_same = answers i d;
@@ -350,20 +350,20 @@ module _ (n : ℕ) (zeros : List ℕ) (o : Outcome) (h : History) (ws : List Who
           back = λ e. back i d e (eqb e e₀) refl;
         })
         (λ e. set_or_old (λ (t : ℕ). t ≤ o.called.machine.count) o.owners e₀ e owner 0 (λ at. owner-small) (inv.owners_small e))
-        (λ e. set_or_old (λ (t : ℕ). t ≤ o.called.machine.count) o.holders e₀ e holder 0 (λ at. mark-small holder holder-is) (inv.holders_small e))
+        (λ e. set_or_old (λ (t : ℕ). t ≤ o.called.machine.count) o.holders e₀ e holder 0 (λ at. mark_small holder holder-is) (inv.holders_small e))
         (λ e. frees e (eqb e e₀) refl)
       where
         back : (i : ℕ) → (i ≡ c → ⊥) → (e : ℕ) (t : Bool) → eqb e e₀ ≡ t → get_or (set o.holders e₀ holder) e 0 ≡ written i → get_or o.holders e 0 ≡ written i
         back i d e true at q =
-            let here : holder ≡ written i = sym (holder-new holder) ∙ ap (λ (j : ℕ). get_or (set o.holders e₀ holder) j 0) (sym (eqb-true e e₀ at)) ∙ q in
+            let here : holder ≡ written i = sym (holder_new holder) ∙ ap (λ (j : ℕ). get_or (set o.holders e₀ holder) j 0) (sym (eqb-true e e₀ at)) ∙ q in
             absurd (⊎_elim (λ (z : holder ≡ 0). no_mark i (sym z ∙ here)) (λ (z : holder ≡ written c). marks_differ i c d (sym here ∙ z)) holder-is)
         back i d e false at q = sym (get_or-set_other o.holders e₀ e holder 0 (eqb-false e e₀ at)) ∙ q
 
         frees : (e : ℕ) (t : Bool) → eqb e e₀ ≡ t → e < n → get_or (set o.holders e₀ holder) e 0 ≡ 0 → get_or (set o.owners e₀ owner) e 0 ≡ owner_of (entry_of n) e k
         frees e true at l q =
             let here : e ≡ e₀ = eqb-true e e₀ at in
-            let none : holder ≡ 0 = sym (holder-new holder) ∙ ap (λ (j : ℕ). get_or (set o.holders e₀ holder) j 0) (sym here) ∙ q in
-            ap (λ (j : ℕ). get_or (set o.owners e₀ owner) j 0) here ∙ owner-new owner ∙ freed none ∙ ap (λ (j : ℕ). owner_of (entry_of n) j k) (sym here)
+            let none : holder ≡ 0 = sym (holder_new holder) ∙ ap (λ (j : ℕ). get_or (set o.holders e₀ holder) j 0) (sym here) ∙ q in
+            ap (λ (j : ℕ). get_or (set o.owners e₀ owner) j 0) here ∙ owner_new owner ∙ freed none ∙ ap (λ (j : ℕ). owner_of (entry_of n) j k) (sym here)
         frees e false at l q =
             let away = eqb-false e e₀ at in
             get_or-set_other o.owners e₀ e owner 0 away ∙ inv.free e l (sym (get_or-set_other o.holders e₀ e holder 0 away) ∙ q) ∙ sym (owners e away)
@@ -377,8 +377,8 @@ module _ (n : ℕ) (zeros : List ℕ) (o : Outcome) (h : History) (ws : List Who
         sound inv.memory inv.history (inv.owners_small e₀) (inr refl) (λ z. absurd (no_mark c (sym z)))
         (λ i d. refl) (λ e d. refl) (λ i d. refl) (λ i d. refl) (λ i d. delivers_other i c Answered.Moved (ds i) d)
         (record {
-          core = core-new c (picture (holds l) (link_of c h)) small;
-          table = rw at (holder-new (written c), owner-new (get_or o.owners e₀ 0) ∙ inv.free e₀ l₀ none);
+          core = core_new c (picture (holds l) (link_of c h)) small;
+          table = rw at (holder_new (written c), owner_new (get_or o.owners e₀ 0) ∙ inv.free e₀ l₀ none);
           lists = (old.lists.0, rw (eq-eqb c c refl) old.lists.1);
           held = λ e. held e (eqb e e₀) refl;
         })
@@ -388,8 +388,8 @@ module _ (n : ℕ) (zeros : List ℕ) (o : Outcome) (h : History) (ws : List Who
         held e false q r = absurd (old.held e (sym (get_or-set_other o.holders e₀ e (written c) 0 (eqb-false e e₀ q)) ∙ r))
 
     -- a holder that stays
-    holder-kept : (e : ℕ) → get_or (set o.holders e₀ (get_or o.holders e₀ 0)) e 0 ≡ get_or o.holders e 0
-    holder-kept e = ap (λ (hs : List ℕ). get_or hs e 0) (set-get_or o.holders e₀ 0)
+    holder_kept : (e : ℕ) → get_or (set o.holders e₀ (get_or o.holders e₀ 0)) e 0 ≡ get_or o.holders e 0
+    holder_kept e = ap (λ (hs : List ℕ). get_or hs e 0) (set-get_or o.holders e₀ 0)
 
     -- step 2: the mark and the test
     pub mark_next : (l : Locked) → (entry_of n (place_of l)).0 ≡ e₀ → CoreOk n zeros o h ws c (holds l) (gs c) (ds c) → (get_or o.holders e₀ 0 ≡ written c) × (get_or o.owners e₀ 0 ≡ owner_of (entry_of n) e₀ h)
@@ -399,13 +399,13 @@ module _ (n : ℕ) (zeros : List ℕ) (o : Outcome) (h : History) (ws : List Who
         let owner = get_or o.owners e₀ 0 in
         let p = tested c l (link_of c h) owner in
         inner Answered.Moved Nothing (picture (reaches l p) (link_of c h)) o.memory (marked c l owner) (get_or o.holders e₀ 0) h ws (λ i. delivers i (step c) Answered.Moved (ds i)) (reaches l p)
-        sound inv.memory inv.history (marked-small c l owner o.called.machine.count below (inv.owners_small e₀)) (inr t.0) (λ z. absurd (no_mark c (sym z ∙ t.0)))
+        sound inv.memory inv.history (marked_small c l owner o.called.machine.count below (inv.owners_small e₀)) (inr t.0) (λ z. absurd (no_mark c (sym z ∙ t.0)))
         (λ i d. refl) (λ e d. refl) (λ i d. refl) (λ i d. refl) (λ i d. delivers_other i c Answered.Moved (ds i) d)
         (record {
-          core = core-new c (picture (reaches l p) (link_of c h)) small;
-          table = rw at (holder-new (get_or o.holders e₀ 0) ∙ t.0, owner-new (marked c l owner) ∙ ap (marked c l) t.1, ap (tested c l (link_of c h)) t.1);
+          core = core_new c (picture (reaches l p) (link_of c h)) small;
+          table = rw at (holder_new (get_or o.holders e₀ 0) ∙ t.0, owner_new (marked c l owner) ∙ ap (marked c l) t.1, ap (tested c l (link_of c h)) t.1);
           lists = (old.lists.0, rw (eq-eqb c c refl) old.lists.1);
-          held = λ e q. old.held e (sym (holder-kept e) ∙ q);
+          held = λ e q. old.held e (sym (holder_kept e) ∙ q);
         })
 
     -- step 3: the access
@@ -430,20 +430,20 @@ module _ (n : ℕ) (zeros : List ℕ) (o : Outcome) (h : History) (ws : List Who
         (sym (ap last_of old.lists.0))
         (inner Answered.Moved (One r) y memory (owner_at l passed owner) (get_or o.holders e₀ 0) (r ∷ h) (does c (operation_of l) ∷ ws) (λ i. delivers i (step c) Answered.Moved (ds i)) (leaves l passed (read_at l w))
         sound
-        (ap (λ (m : List ℕ). if writes_at l passed then write_word m (place_of l) (value_of (operation_of l)) else m) inv.memory ∙ sym (ap (λ (q : Finished). q.memory) f) ∙ sym (refer-memory (entry_of n) zeros c (operation_of l) ws))
-        ((λ i. access_at c l passed (word i) ∷ inv.history i) ∙ ap (λ (q : Record). q ∷ ref.history) (sym (ap (λ (q : Finished). q.access) f)) ∙ sym (refer-history (entry_of n) zeros c (operation_of l) ws))
+        (ap (λ (m : List ℕ). if writes_at l passed then write_word m (place_of l) (value_of (operation_of l)) else m) inv.memory ∙ sym (ap (λ (q : Finished). q.memory) f) ∙ sym (refer_memory (entry_of n) zeros c (operation_of l) ws))
+        ((λ i. access_at c l passed (word i) ∷ inv.history i) ∙ ap (λ (q : Record). q ∷ ref.history) (sym (ap (λ (q : Finished). q.access) f)) ∙ sym (refer_history (entry_of n) zeros c (operation_of l) ws))
         (owner_at_small l passed owner o.called.machine.count (inv.owners_small e₀)) (inr t.0) (λ z. absurd (no_mark c (sym z ∙ t.0)))
         (λ i d. link_other i r h (λ e. d (sym e))) (λ e d. owner_elsewhere (entry_of n) e r h (λ q. d (sym q ∙ at)))
-        (operations-other (entry_of n) zeros c (operation_of l) ws) (answers-other (entry_of n) zeros c (operation_of l) ws) (λ i d. delivers_other i c Answered.Moved (ds i) d)
+        (operations_other (entry_of n) zeros c (operation_of l) ws) (answers_other (entry_of n) zeros c (operation_of l) ws) (λ i d. delivers_other i c Answered.Moved (ds i) d)
         (record {
-          core = core-new c y small ∙ ap (picture (leaves l passed (read_at l w))) (sym (link_left c h l passed w));
-          table = rw at (holder-new (get_or o.holders e₀ 0) ∙ t.0, owner-new (owner_at l passed owner) ∙ mark);
+          core = core_new c y small ∙ ap (picture (leaves l passed (read_at l w))) (sym (link_left c h l passed w));
+          table = rw at (holder_new (get_or o.holders e₀ 0) ∙ t.0, owner_new (owner_at l passed owner) ∙ mark);
           lists = (
-            old.lists.0 ∙ sym (operations-own (entry_of n) zeros c (operation_of l) ws),
-            answers-own (entry_of n) zeros c (operation_of l) ws ∙ ap (λ (q : Answer). q ∷ answers_of (entry_of n) zeros c ws) (ap (λ (q : Finished). q.answer) f)
+            old.lists.0 ∙ sym (operations_own (entry_of n) zeros c (operation_of l) ws),
+            answers_own (entry_of n) zeros c (operation_of l) ws ∙ ap (λ (q : Answer). q ∷ answers_of (entry_of n) zeros c ws) (ap (λ (q : Finished). q.answer) f)
                 ∙ rw (eq-eqb c c refl) (λ i. answer_at l passed (read_at l (sym word i)) ∷ old.lists.1 i),
           );
-          held = λ e q. old.held e (sym (holder-kept e) ∙ q);
+          held = λ e q. old.held e (sym (holder_kept e) ∙ q);
         }))
 
     -- step 4: the lock is given back, and the answer delivered
@@ -456,12 +456,12 @@ module _ (n : ℕ) (zeros : List ℕ) (o : Outcome) (h : History) (ws : List Who
         sound inv.memory inv.history (inv.owners_small e₀) (inl refl) (λ z. t.1)
         (λ i d. refl) (λ e d. refl) (λ i d. refl) (λ i d. refl) (λ i d. delivers_other i c (answer_at l passed read) (ds i) d)
         (record {
-          core = core-new c (picture rests (link_of c h)) small;
+          core = core_new c (picture rests (link_of c h)) small;
           table = tt;
           lists = (old.lists.0, rw (eq-eqb c c refl, finishes_at l passed read) old.lists.1);
           held = λ e. held e (eqb e e₀) refl;
         })
       where
         held : (e : ℕ) (b : Bool) → eqb e e₀ ≡ b → get_or (set o.holders e₀ 0) e 0 ≡ written c → ⊥
-        held e true q r = no_mark c (sym (holder-new 0) ∙ ap (λ (j : ℕ). get_or (set o.holders e₀ 0) j 0) (sym (eqb-true e e₀ q)) ∙ r)
+        held e true q r = no_mark c (sym (holder_new 0) ∙ ap (λ (j : ℕ). get_or (set o.holders e₀ 0) j 0) (sym (eqb-true e e₀ q)) ∙ r)
         held e false q r = eqb-false e e₀ q (sym (old.held e (sym (get_or-set_other o.holders e₀ e 0 0 (eqb-false e e₀ q)) ∙ r)) ∙ at)

@@ -80,26 +80,26 @@ module _ (watch : Bool) (session : Session) (memory owners holders : List ℕ) (
     (room : can_answer (length out) at answered ≡ true)
     (did : after ran memory₁ owners₁ holders₁ ≡ run_line session memory owners holders line)
     (put : out₁ ≡ answer_put (answered + 1) ran.answer out at) (ends : at₁ ≡ answer_end (answered + 1) ran.answer (length out) at) (fits : at₁ ≤ at + answer_room) where
-  next-work : after_line (work session memory owners holders answered) line ≡ work ran.session memory₁ owners₁ holders₁ (answered + 1)
+  next_work : after_line (work session memory owners holders answered) line ≡ work ran.session memory₁ owners₁ holders₁ (answered + 1)
   unfolding after_line
-  next-work = rw (← did)
+  next_work = rw (← did)
 
-  next-text : text_of (work session memory owners holders answered) line ≡ answer_line (answered + 1) ran.answer
+  next_text : text_of (work session memory owners holders answered) line ≡ answer_line (answered + 1) ran.answer
   unfolding text_of
-  next-text = rw (← did)
+  next_text = rw (← did)
 
   -- the event goes unseen, or there is none
   pub answers_on : is_event (seen_of watch ran.answer ran.made) ≡ false
       → answer_lines watch (work session memory owners holders answered) (line ∷ lines) out at
       ≡ answer_lines watch (work ran.session memory₁ owners₁ holders₁ (answered + 1)) lines out₁ at₁
   unfolding answer_lines
-  answers_on e = rw (room, ← did, e, put, ends, next-work)
+  answers_on e = rw (room, ← did, e, put, ends, next_work)
 
   pub answers_stop : is_event (seen_of watch ran.answer ran.made) ≡ true
       → stopped (work ran.session memory₁ owners₁ holders₁ (answered + 1)) lines out₁ at₁ (seen_of watch ran.answer ran.made)
       ≡ answer_lines watch (work session memory owners holders answered) (line ∷ lines) out at
   unfolding answer_lines
-  answers_stop e = rw (room, ← did, e, put, ends, next-work)
+  answers_stop e = rw (room, ← did, e, put, ends, next_work)
 
   pub texts_on : take at₁ out₁ ++ texts_of (work ran.session memory₁ owners₁ holders₁ (answered + 1)) lines
       ≡ take at out ++ texts_of (work session memory owners holders answered) (line ∷ lines)
@@ -110,7 +110,7 @@ module _ (watch : Bool) (session : Session) (memory owners holders : List ℕ) (
       let q : at₁ ≡ at + length (answer_line (answered + 1) ran.answer) = ends ∙ rw lr in
       let h : at + length (answer_line (answered + 1) ran.answer) ≤ length out = omega arith in
       let taken : take at₁ out₁ ≡ take at out ++ answer_line (answered + 1) ran.answer = rw (q, p) (put_taken out (answer_line (answered + 1) ran.answer) at h) in
-      rw (taken, next-text, next-work, append_assoc)
+      rw (taken, next_text, next_work, append_assoc)
 
 -- Where the answering stands: what is left from here gives what the whole gives.
 pub record Stands (watch : Bool) (start : Work) (input : List ℕ) (from end : ℕ) (first : List ℕ) (at : ℕ) (w : Work) (next : ℕ) (out : List ℕ) (to : ℕ) : Type 0 where
@@ -138,21 +138,21 @@ module _ (watch : Bool) (start : Work) (input : List ℕ) (from end : ℕ) (firs
   did : after ran memory₁ owners₁ holders₁ ≡ run_line session memory owners holders line
   did = as_line session memory owners holders line (after ran memory₁ owners₁ holders₁) command runs reads
 
-  the-lines : lines_in (between next end input) ≡ line ∷ lines_in (between (stop + 1) end input)
-  the-lines = next_line input next end stop stands.within high found more
+  the_lines : lines_in (between next end input) ≡ line ∷ lines_in (between (stop + 1) end input)
+  the_lines = next_line input next end stop stands.within high found more
 
-  on-text : take to₁ out₁ ++ texts_of (work ran.session memory₁ owners₁ holders₁ (answered + 1)) (lines_in (between (stop + 1) end input))
+  on_text : take to₁ out₁ ++ texts_of (work ran.session memory₁ owners₁ holders₁ (answered + 1)) (lines_in (between (stop + 1) end input))
       ≡ take at first ++ texts_of start (lines_in (between from end input))
-  on-text =
+  on_text =
       texts_on watch session memory owners holders answered line (lines_in (between (stop + 1) end input)) out to ran memory₁ owners₁ holders₁ out₁ to₁ room did put ends fits
-      ∙ ap (λ (l : List (List ℕ)). take to out ++ texts_of (work session memory owners holders answered) l) (sym the-lines)
+      ∙ ap (λ (l : List (List ℕ)). take to out ++ texts_of (work session memory owners holders answered) l) (sym the_lines)
       ∙ stands.text
 
-  on-left : unfinished (between (stop + 1) end input) ≡ unfinished (between from end input)
-  on-left = next_left input next end stop stands.within high found more ∙ stands.left
+  on_left : unfinished (between (stop + 1) end input) ≡ unfinished (between from end input)
+  on_left = next_left input next end stop stands.within high found more ∙ stands.left
 
-  on-within : stop + 1 ≤ end
-  on-within = line_ends input next end stop stands.within high found more
+  on_within : stop + 1 ≤ end
+  on_within = line_ends input next end stop stands.within high found more
 
   pub turn_on : is_event (seen_of watch ran.answer ran.made) ≡ false
       → Stands watch start input from end first at (work ran.session memory₁ owners₁ holders₁ (answered + 1)) (stop + 1) out₁ to₁
@@ -160,11 +160,11 @@ module _ (watch : Bool) (start : Work) (input : List ℕ) (from end : ℕ) (firs
       record {
         outcome =
             sym (answers_on watch session memory owners holders answered line (lines_in (between (stop + 1) end input)) out to ran memory₁ owners₁ holders₁ out₁ to₁ room did put ends fits e)
-            ∙ ap (λ (l : List (List ℕ)). answer_lines watch (work session memory owners holders answered) l out to) (sym the-lines)
+            ∙ ap (λ (l : List (List ℕ)). answer_lines watch (work session memory owners holders answered) l out to) (sym the_lines)
             ∙ stands.outcome;
-        text = on-text;
-        left = on-left;
-        within = on-within;
+        text = on_text;
+        left = on_left;
+        within = on_within;
       }
 
   pub record Ended (event : Event) : Type 0 where
@@ -182,9 +182,9 @@ module _ (watch : Bool) (start : Work) (input : List ℕ) (from end : ℕ) (firs
         outcome =
             ap (λ (v : Event). stopped (work ran.session memory₁ owners₁ holders₁ (answered + 1)) (lines_in (between (stop + 1) end input)) out₁ to₁ v) is
             ∙ answers_stop watch session memory owners holders answered line (lines_in (between (stop + 1) end input)) out to ran memory₁ owners₁ holders₁ out₁ to₁ room did put ends fits there
-            ∙ ap (λ (l : List (List ℕ)). answer_lines watch (work session memory owners holders answered) l out to) (sym the-lines)
+            ∙ ap (λ (l : List (List ℕ)). answer_lines watch (work session memory owners holders answered) l out to) (sym the_lines)
             ∙ stands.outcome;
-        text = on-text;
-        left = on-left;
-        within = on-within;
+        text = on_text;
+        left = on_left;
+        within = on_within;
       }

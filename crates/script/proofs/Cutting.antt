@@ -145,11 +145,11 @@ take_min a b l = go (leb a b) refl
 
 -- the next line of a part of a buffer: where it ends, what is handed on of it, and what comes after it
 module _ (bytes : List ℕ) (from end stop : ℕ) (low : from ≤ end) (high : end ≤ length bytes) (found : stop ≡ from + length (first_line (between from end bytes))) where
-  first-within : from + length (first_line (between from end bytes)) ≤ end
-  first-within = let e = length-between bytes from end low high in let f = first_fits (between from end bytes) in omega arith
+  first_within : from + length (first_line (between from end bytes)) ≤ end
+  first_within = let e = length-between bytes from end low high in let f = first_fits (between from end bytes) in omega arith
 
   pub stop_within : stop ≤ end
-  stop_within = let f = first-within in omega arith
+  stop_within = let f = first_within in omega arith
 
   pub stop_after : from ≤ stop
   stop_after = omega arith
@@ -161,15 +161,15 @@ module _ (bytes : List ℕ) (from end stop : ℕ) (low : from ≤ end) (high : e
       ap handed_on (none_whole [] (between from end bytes) h)
 
   module _ (more : stop ≡ end → ⊥) where
-    first-less : length (first_line (between from end bytes)) < length (between from end bytes)
-    first-less =
+    first_less : length (first_line (between from end bytes)) < length (between from end bytes)
+    first_less =
         let l = length-between bytes from end low high in
         let f = stop_within in
         let n : stop < end = omega arith in
         omega arith
 
     pub line_ends : stop + 1 ≤ end
-    line_ends = let f = first-less in let l = length-between bytes from end low high in omega arith
+    line_ends = let f = first_less in let l = length-between bytes from end low high in omega arith
 
     rest_of : drop (suc (length (first_line (between from end bytes)))) (between from end bytes) ≡ between (stop + 1) end bytes
     rest_of =
@@ -177,14 +177,14 @@ module _ (bytes : List ℕ) (from end stop : ℕ) (low : from ≤ end) (high : e
         between-drop bytes from end (suc (length (first_line (between from end bytes)))) ∙ ap (λ (k : ℕ). between k end bytes) e
 
     pub next_line : lines_in (between from end bytes) ≡ handed (first_line (between from end bytes)) ∷ lines_in (between (stop + 1) end bytes)
-    next_line = ap handed_on (one_whole [] (between from end bytes) first-less) ∙ ap (λ (l : List ℕ). handed (first_line (between from end bytes)) ∷ lines_in l) rest_of
+    next_line = ap handed_on (one_whole [] (between from end bytes) first_less) ∙ ap (λ (l : List ℕ). handed (first_line (between from end bytes)) ∷ lines_in l) rest_of
 
     pub next_left : unfinished (between (stop + 1) end bytes) ≡ unfinished (between from end bytes)
-    next_left = sym (one_left [] (between from end bytes) first-less ∙ ap unfinished rest_of)
+    next_left = sym (one_left [] (between from end bytes) first_less ∙ ap unfinished rest_of)
 
   pub line_handed : (cut : ℕ) → cut ≡ from + min (stop - from) 81 → take (cut - from) (drop from bytes) ≡ handed (first_line (between from end bytes))
   line_handed cut e =
-      let f = first-within in
+      let f = first_within in
       let h : length (first_line (between from end bytes)) ≤ end - from = omega arith in
       let k : cut - from ≡ min 81 (length (first_line (between from end bytes))) = omega arith in
       rw k
@@ -194,8 +194,8 @@ module _ (bytes : List ℕ) (from end stop : ℕ) (low : from ≤ end) (high : e
 -- a byte is moved to the front: those before it were, and those from it on stand as they stood
 module _ (now old : List ℕ) (from i : ℕ) (inside : from + i < length old) (same : length now ≡ length old)
     (moved : take i now ≡ take i (drop from old)) (left : drop i now ≡ drop i old) where
-  byte-there : get_or now (from + i) 0 ≡ get_or old (from + i) 0
-  byte-there =
+  byte_there : get_or now (from + i) 0 ≡ get_or old (from + i) 0
+  byte_there =
       let e : from + i ≡ i + from = omega arith in
       rw e (sym (get_or-drop i now from 0) ∙ ap (λ (l : List ℕ). get_or l from 0) left ∙ get_or-drop i old from 0)
 
@@ -203,7 +203,7 @@ module _ (now old : List ℕ) (from i : ℕ) (inside : from + i < length old) (s
   move_front =
       let h : i < length now = omega arith in
       let k : i < length (drop from old) = rw length-drop (omega arith) in
-      rw (add-one, byte-there, take-suc-set now i (get_or old (from + i) 0) h, moved, take-suc (drop from old) i 0 k, get_or-drop)
+      rw (add-one, byte_there, take-suc-set now i (get_or old (from + i) 0) h, moved, take-suc (drop from old) i 0 k, get_or-drop)
 
   pub move_back : drop (i + 1) (set now i (get_or now (from + i) 0)) ≡ drop (i + 1) old
   move_back =

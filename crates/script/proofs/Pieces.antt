@@ -75,8 +75,8 @@ take_front zero a b = refl
 take_front (suc n) [] b = refl
 take_front (suc n) (x ∷ a) b = ap (λ (l : List ℕ). x ∷ l) (take_front n a b)
 
-handed-append : (a b more : List ℕ) → handed a ≡ handed b → handed (a ++ more) ≡ handed (b ++ more)
-handed-append a b more e = sym (take_front 81 a more) ∙ ap (λ (l : List ℕ). take 81 (l ++ more)) e ∙ take_front 81 b more
+handed_append : (a b more : List ℕ) → handed a ≡ handed b → handed (a ++ more) ≡ handed (b ++ more)
+handed_append a b more e = sym (take_front 81 a more) ∙ ap (λ (l : List ℕ). take 81 (l ++ more)) e ∙ take_front 81 b more
 
 same_whole : (bytes a b : List ℕ) → handed a ≡ handed b → handed_on (whole_from a bytes) ≡ handed_on (whole_from b bytes)
 same_whole [] a b e = refl
@@ -85,7 +85,7 @@ same_whole (x ∷ bytes) a b e =
     (λ (t : Bool). handed_on (if t then a ∷ whole_from [] bytes else whole_from (a ++ x ∷ []) bytes) ≡ handed_on (if t then b ∷ whole_from [] bytes else whole_from (b ++ x ∷ []) bytes))
     (eqb x 10)
     (ap (λ (l : List ℕ). l ∷ handed_on (whole_from [] bytes)) e)
-    (same_whole bytes (a ++ x ∷ []) (b ++ x ∷ []) (handed-append a b (x ∷ []) e))
+    (same_whole bytes (a ++ x ∷ []) (b ++ x ∷ []) (handed_append a b (x ∷ []) e))
 
 same_left : (bytes a b : List ℕ) → handed a ≡ handed b → handed (left_from a bytes) ≡ handed (left_from b bytes)
 same_left [] a b e = e
@@ -94,7 +94,7 @@ same_left (x ∷ bytes) a b e =
     (λ (t : Bool). handed (if t then left_from [] bytes else left_from (a ++ x ∷ []) bytes) ≡ handed (if t then left_from [] bytes else left_from (b ++ x ∷ []) bytes))
     (eqb x 10)
     refl
-    (same_left bytes (a ++ x ∷ []) (b ++ x ∷ []) (handed-append a b (x ∷ []) e))
+    (same_left bytes (a ++ x ∷ []) (b ++ x ∷ []) (handed_append a b (x ∷ []) e))
 
 handed_twice : (a : List ℕ) → handed (handed a) ≡ handed a
 handed_twice a = take-take 81 81 a (omega arith)

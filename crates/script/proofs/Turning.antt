@@ -83,11 +83,11 @@ module _ (number : ℕ) (line line₁ : LineNumber) (digits : line ≡ line_numb
   pub next_digits : line₁ ≡ line_number (number + 1)
   next_digits = counted ∙ ap (λ (l : LineNumber). counted_on l (number + 1)) digits ∙ counts_on number
 
-  next-put : (answer : Answer) (out : List ℕ) (at : ℕ) → line_put (digits_of (number + 1) line₁) answer out at ≡ answer_put (number + 1) answer out at
-  next-put answer out at = ap (λ (l : LineNumber). line_put (digits_of (number + 1) l) answer out at) next_digits ∙ line_put_lem (number + 1) answer out at
+  next_put : (answer : Answer) (out : List ℕ) (at : ℕ) → line_put (digits_of (number + 1) line₁) answer out at ≡ answer_put (number + 1) answer out at
+  next_put answer out at = ap (λ (l : LineNumber). line_put (digits_of (number + 1) l) answer out at) next_digits ∙ line_put_lem (number + 1) answer out at
 
-  next-end : (answer : Answer) (lent at : ℕ) → line_end (digits_of (number + 1) line₁) answer lent at ≡ answer_end (number + 1) answer lent at
-  next-end answer lent at = ap (λ (l : LineNumber). line_end (digits_of (number + 1) l) answer lent at) next_digits ∙ line_end_lem (number + 1) answer lent at
+  next_end : (answer : Answer) (lent at : ℕ) → line_end (digits_of (number + 1) line₁) answer lent at ≡ answer_end (number + 1) answer lent at
+  next_end answer lent at = ap (λ (l : LineNumber). line_end (digits_of (number + 1) l) answer lent at) next_digits ∙ line_end_lem (number + 1) answer lent at
 
 -- Where the loop of the lines stands: what is left gives what the whole gives, the number has its digits, the session is sound, and the answers are inside the output.
 pub record Going (watch : Bool) (start : Work) (input : List ℕ) (from end : ℕ) (first : List ℕ) (at begun : ℕ) (m : Machine) (memory owners holders : List ℕ) (number : ℕ) (line : LineNumber) (next : ℕ) (out : List ℕ) (to : ℕ) : Type 0 where
@@ -117,10 +117,10 @@ module _ (watch : Bool) (start : Work) (input : List ℕ) (from end : ℕ) (firs
   fits₁ = omega arith
 
   pub put₁ : out₁ ≡ answer_put (number + 1) answer out to
-  put₁ = put ∙ next-put number line line₁ going.digits counted answer out to
+  put₁ = put ∙ next_put number line line₁ going.digits counted answer out to
 
   pub ends₁ : to₁ ≡ answer_end (number + 1) answer (length out) to
-  ends₁ = ends ∙ next-end number line line₁ going.digits counted answer (length out) to
+  ends₁ = ends ∙ next_end number line line₁ going.digits counted answer (length out) to
 
   pub goes_sound : Sound (sess begun₁ m₁)
   goes_sound = sound_on begun m memory owners holders command going.sound answer made begun₁ m₁ memory₁ owners₁ holders₁ leaves
