@@ -1,4 +1,4 @@
-/* Malthobre for a bench in C, C++ or Rust: link crates/bench/out/libbench.a (x86-64 Linux).
+/* Malthobre for a bench in C, C++ or Rust: link target/staticlib/libbench.a (x86-64 Linux).
  *
  * The library keeps no state and allocates nothing. The bench keeps one machine and one writer, each
  * a plain struct, and lends memory and both tables to each call. Every call takes any values and

@@ -1,5 +1,5 @@
 //! Links the proved library, libbench.a, where it is built. The folder that holds it is given by
-//! MALTHOBRE_STATICLIB, or is the repository's crates/bench/out.
+//! MALTHOBRE_STATICLIB, or is the repository's target/staticlib.
 
 use std::path::PathBuf;
 
@@ -8,7 +8,7 @@ fn main() {
     println!("cargo::rerun-if-env-changed=MALTHOBRE_STATICLIB");
     let folder = match std::env::var_os("MALTHOBRE_STATICLIB") {
         Some(folder) => PathBuf::from(folder),
-        None => PathBuf::from(env!("CARGO_MANIFEST_DIR")).join("../../crates/bench/out"),
+        None => PathBuf::from(env!("CARGO_MANIFEST_DIR")).join("../../target/staticlib"),
     };
     let library = folder.join("libbench.a");
     println!("cargo::rerun-if-changed={}", library.display());
