@@ -5,7 +5,7 @@ usage: python3 tools/respell.py [--list]      at the top of the repository
 
 A name counts as the repository's own if a file of specs/ or a file right in proofs/ declares it. Words are joined by '_'; a dash stays only
 between two words that are names themselves, as in 'length-append'. Types, modules and facts keep their capitals, functions of src/, exported
-names and texts keep their names. Must-fail edits are turned as the files are: their names, and what the kit's scripts made of clauses.
+names and texts keep their names. What a file of lemmas keeps to itself is turned in that file alone. Must-fail edits get the names too.
 With --list it writes the old and new names and changes nothing.
 """
 import os
