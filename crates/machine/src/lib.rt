@@ -14,5 +14,6 @@ pub use calls::{Grant, poke, show, start};
 pub use known::{give_core, poke_word, show_word, step_core};
 pub use place::{Stepped, give, give_in_place, step, step_in_place};
 pub use rules::{
-    Answer, Called, Core, GuestAddress, Handed, Machine, MicroStep, Operation, Record,
+    Answer, Called, Core, GuestAddress, Handed, Machine, MicroStep, Operation, Record, Refusal,
+    number_of,
 };

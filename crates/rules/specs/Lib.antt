@@ -1,6 +1,7 @@
 pub mod Basics
 pub mod Sizes
 pub mod Entry
+pub mod Refusals
 pub mod Word
 pub mod Kinds
 pub mod Life

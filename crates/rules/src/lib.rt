@@ -8,9 +8,11 @@
 mod answers;
 mod cores;
 mod entry;
+mod refusals;
 mod state;
 
 pub use answers::{Answer, Handed, Operation, Record};
 pub use cores::{Core, MicroStep};
 pub use entry::{EntryNumber, GuestAddress, entry_of};
+pub use refusals::{Refusal, number_of};
 pub use state::{Called, Machine};
