@@ -1,7 +1,7 @@
 -- The number of each call's answer is the number of its refusal, 0 where it is not refused.
 -- Assumes nothing.
 use Rattle.std.proofs.Common.{◌≡◌, ℕ, Bool, true, false, List, Result, Ok, Err, length, refl, ap, ◌∙◌, arith, if◌then◌else◌}
-use Rattle.rules.specs.Refusals.{Tested, refusal_number, number_in, unless_refused}
+use Rattle.rules.specs.Refusals.{Tested, no_refusal, refusal_number, number_in, unless_refused}
 use Rattle.rules.specs.Word.{read_word}
 use Rattle.rules.specs.Calls.{Outcome, PokeOutcome, outcome, poke_outcome, refused, answered, all_idle, started, taken, stepped, poked, start_refusal, start_of, give_refusal, give_of, step_refusal, step_of, micro_step_at, word_refusal, poke_of, show_of}
 use Rattle.rules.specs.declared.entry.GuestAddress.{GuestAddress}
@@ -38,6 +38,11 @@ refusals_numbered RecordField h = omega arith
 refusals_numbered BlockLength h = omega arith
 refusals_numbered Full h = omega arith
 refusals_numbered Closed h = omega arith
+
+-- tests whose number is 0 refuse nothing
+pub not_refused : (t : Tested) → number_in t ≡ 0 → t ≡ no_refusal
+not_refused (Ok u) z = refl
+not_refused (Err r) z = absurd (refusals_numbered r z)
 
 -- an answer that is one or the other by a call's tests
 chosen : {A : Type 0} (answer : A → Result Answer Refusal) (t : Tested) (refusal : Refusal → A) (done : A) → ((r : Refusal) → number_in (answer (refusal r)) ≡ refusal_number r) → number_in (answer done) ≡ 0
