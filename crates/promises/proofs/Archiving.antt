@@ -22,7 +22,7 @@ use Rattle.rules.specs.declared.entry.EntryNumber.{EntryNumber}
 use Rattle.rules.specs.declared.answers.Operation.{Operation}
 use Rattle.rules.specs.declared.answers.Operation.TheVariants as Asked
 use Rattle.rules.proofs.Accepted.{Inside, sizes_fit_lem, core_small, give_accepted, step_accepted, word_accepted}
-use Rattle.rules.proofs.Numbers.{not_refused, start_number, give_number, step_number, poke_number}
+use Rattle.rules.proofs.Numbers.{by_zero, not_refused, start_number, give_number, step_number, poke_number}
 use Rattle.rules.proofs.Words.{word_laws}
 use Rattle.rules.proofs.Lawful.{refusal_laws, range_laws}
 use Rattle.rules.proofs.Invariant.{run_inv}
@@ -91,13 +91,6 @@ last_good : (os : List Operation) → GoodOperations os → GoodOperation (last_
 unfolding address_good
 last_good [] g = record { address = refl; value = omega arith }
 last_good (o ∷ os) g = g.0
-
-by_zero : (P : Type 0) (n : ℕ) → (n ≡ 0 → P) → ((n ≡ 0 → ⊥) → P) → P
-by_zero P n f g = go (eqb n 0) refl
-  where
-    go : (t : Bool) → eqb n 0 ≡ t → P
-    go true e = f (eqb-true n 0 e)
-    go false e = g (eqb-false n 0 e)
 
 -- a call that is not refused, by its answer's number
 given_fits : (o : Outcome) (core : ℕ) (op : Operation) → value_of op < 2 ^ 32 → number_in (act o (give core op)).called.answer ≡ 0 → GoodOperation op

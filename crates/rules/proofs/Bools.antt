@@ -1,7 +1,8 @@
 -- What a test that holds, or a refusal that is not given, says of its parts.
 -- Assumes nothing.
-use Rattle.std.proofs.Common.{◌≡◌, Bool, true, false, not, ◌&&◌, ◌||◌, Err, is_err, sym, refl, ap, true≢false, if◌then◌else◌}
+use Rattle.std.proofs.Common.{◌≡◌, ℕ, zero, suc, ◌<◌, Bool, true, false, not, ◌&&◌, ◌||◌, Err, is_err, sym, refl, ap, true≢false, arith, if◌then◌else◌}
 use mathlib.Core.Bool.{false≢true}
+use Rattle.rules.specs.Basics.{all_below}
 use Rattle.rules.specs.Refusals.{Tested, no_refusal}
 use Rattle.rules.specs.declared.refusals.Refusal.{Refusal}
 
@@ -50,3 +51,8 @@ not_in_use false b p h = h
 pub passed_over : (t : Bool) (r : Refusal) (rest : Tested) → (if t then Err r else rest) ≡ no_refusal → (t ≡ false) × (rest ≡ no_refusal)
 passed_over true r rest h = absurd (true≢false (ap is_err h))
 passed_over false r rest h = (refl, h)
+
+-- what holds of each number below n
+pub all_below_lem : (n : ℕ) (test : ℕ → Bool) → ((i : ℕ) → i < n → test i ≡ true) → all_below n test ≡ true
+all_below_lem zero test each = refl
+all_below_lem (suc n) test each = rw (all_below_lem n test (λ i l. each i (omega arith)), each n (omega arith))

@@ -2,7 +2,6 @@
 -- Assumes nothing.
 use Rattle.std.proofs.Common.{◌≡◌, ℕ, zero, suc, ◌<◌, Bool, true, false, eqb, List, [], ◌∷◌, Option, Some, None, Ok, Err, length, get_or, set, replicate, sym, refl, ap, ◌∙◌, subst, inl, inr, true≢false, arith, ne_eqb, eqb-true, if◌then◌else◌}
 use lib.Seq.{set-get_or}
-use borrow.Author.Tests.{eqb-false}
 use Rattle.rules.specs.Sizes.{written}
 use Rattle.rules.specs.Entry.{entry_of}
 use Rattle.rules.specs.Word.{read_word, write_word}
@@ -27,7 +26,7 @@ use Rattle.rules.specs.declared.state.Machine.{Machine}
 use Rattle.rules.proofs.Accepted.{core_small, sizes_fit_lem, entry_below, start_accepted, give_accepted, StepAccepted, step_accepted}
 use Rattle.rules.proofs.Kept.{idle_anywhere}
 use Rattle.rules.proofs.Lawful.{refusal_laws, range_laws, started_sound}
-use Rattle.rules.proofs.Numbers.{refusals_numbered}
+use Rattle.rules.proofs.Numbers.{by_zero, refusals_numbered}
 use Rattle.rules.proofs.Judging.{and_no}
 use Rattle.rules.proofs.Bools.{either_way}
 use Rattle.rules.proofs.Phases.{Locked, place_of, Phase, rests, loads, asks, holds, reaches, leaves, picture, load_step_lem, ask_step, hold_step, reach_step, leave_step_lem}
@@ -37,14 +36,6 @@ use Rattle.rules.proofs.Transitions.{carried, given_next, poked_next, loaded_nex
 -- a call leaves the state in its ranges, and the buffers of its sizes, as it found them
 found_sound : (x o : Outcome) → AsFound x o.called.machine o.memory o.owners o.holders → Sound o → Sound x
 found_sound x o f s = record { ranges = rw f.machine_as_found s.ranges; lengths = rw (f.machine_as_found, f.memory_as_found, f.owners_as_found, f.holders_as_found) s.lengths }
-
--- by whether a number is 0
-by_zero : (P : Type 0) (n : ℕ) → (n ≡ 0 → P) → ((n ≡ 0 → ⊥) → P) → P
-by_zero P n yes' no' = go (eqb n 0) refl
-  where
-    go : (t : Bool) → eqb n 0 ≡ t → P
-    go true e = yes' (eqb-true n 0 e)
-    go false e = no' (eqb-false n 0 e)
 
 -- by whether a call's tests refuse it
 by_tested : (P : Type 0) (t : Tested) → (t ≡ no_refusal → P) → ((r : Refusal) → t ≡ Err r → P) → P

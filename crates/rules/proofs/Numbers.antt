@@ -1,6 +1,7 @@
 -- The number of each call's answer is the number of its refusal, 0 where it is not refused.
 -- Assumes nothing.
-use Rattle.std.proofs.Common.{◌≡◌, ℕ, Bool, true, false, List, Result, Ok, Err, length, refl, ap, ◌∙◌, arith, if◌then◌else◌}
+use Rattle.std.proofs.Common.{◌≡◌, ℕ, Bool, true, false, eqb, List, Result, Ok, Err, length, refl, ap, ◌∙◌, eqb-true, arith, if◌then◌else◌}
+use borrow.Author.Tests.{eqb-false}
 use Rattle.rules.specs.Refusals.{Tested, no_refusal, refusal_number, number_in, unless_refused}
 use Rattle.rules.specs.Word.{read_word}
 use Rattle.rules.specs.Calls.{Outcome, PokeOutcome, outcome, poke_outcome, refused, answered, all_idle, started, taken, stepped, poked, start_refusal, start_of, give_refusal, give_of, step_refusal, step_of, micro_step_at, word_refusal, poke_of, show_of}
@@ -17,6 +18,14 @@ use Rattle.rules.specs.declared.state.Called.{Called}
 pub of_both : {A : Type 0} (P : A → Type 0) (t : Bool) {a b : A} → P a → P b → P (if t then a else b)
 of_both P true p q = p
 of_both P false p q = q
+
+-- by whether a number is 0
+pub by_zero : (P : Type 0) (n : ℕ) → (n ≡ 0 → P) → ((n ≡ 0 → ⊥) → P) → P
+by_zero P n yes' no' = go (eqb n 0) refl
+  where
+    go : (t : Bool) → eqb n 0 ≡ t → P
+    go true e = yes' (eqb-true n 0 e)
+    go false e = no' (eqb-false n 0 e)
 
 -- no refusal has the number 0
 pub refusals_numbered : (r : Refusal) → refusal_number r ≡ 0 → ⊥

@@ -4,7 +4,7 @@ ghost use Rattle.rules.specs.Entry.{entry_of};
 
 // A byte's address in guest memory.
 #[repr(C)]
-#[derive(Clone, Copy, PartialEq, Eq, Debug)]
+#[derive(Clone, Copy, PartialEq, Eq, Default, Debug)]
 pub struct GuestAddress(pub u32);
 
 // The number of an entry of the table.
