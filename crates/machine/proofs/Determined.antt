@@ -11,7 +11,7 @@ use Rattle.rules.specs.declared.answers.Answer.{Answer}
 use Rattle.rules.specs.declared.cores.MicroStep.{MicroStep}
 use Rattle.machine.specs.Acted.{Acted, acted}
 use Rattle.machine.specs.Known.{PokedOutcome, poked_outcome}
-use Rattle.machine.specs.declared.calls.Grant.{Grant}
+use Rattle.machine.specs.declared.known.Grant.{Grant}
 use Rattle.machine.specs.declared.place.Stepped.{Stepped}
 use Rattle.rules.proofs.Lawful.{one-outcome}
 use Rattle.machine.specs.contracts.calls.start as start

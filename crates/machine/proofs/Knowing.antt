@@ -3,8 +3,6 @@
 use Rattle.std.proofs.Common.{◌≡◌, ℕ, ◌+◌, ◌%◌, ◌<◌, ◌≤◌, Bool, true, false, not, ◌&&◌, eqb, ltb, leb, List, length, get_or, sym, refl, ap, ◌∙◌, arith, ltb-false, ltb-true, le-ltb, lt-ltb, eqb-true, le-leb, leb-false, leb-true, if◌then◌else◌}
 use mathlib.Core.Bool.{false≢true}
 use borrow.Author.Tests.{eqb-false}
-use Rattle.rules.specs.Entry.{entry_of}
-use Rattle.rules.specs.declared.entry.EntryNumber.{EntryNumber}
 use Rattle.rules.specs.declared.entry.GuestAddress.{GuestAddress}
 use Rattle.rules.specs.Ranges.{core_at, in_ranges, damaged}
 use Rattle.rules.specs.Calls.{answered, address_refusal, lent_fits, entry_at, mark_at, poke_outcome, give_refusal, give_of, step_refusal, step_of, word_refusal, poke_of, show_of}
@@ -33,7 +31,7 @@ reached bytes entries memory owners holders core e p lent there =
     (ltb-true core 8 r.0, omega arith, omega arith, omega arith)
 
 -- a step that is not refused reaches what is there
-step_reach : (count bytes entries : ℕ) (c : Core) (memory : ℕ) (owners holders : List ℕ) (core : ℕ)
+pub step_reach : (count bytes entries : ℕ) (c : Core) (memory : ℕ) (owners holders : List ℕ) (core : ℕ)
     → known_step_refusal count bytes entries c memory owners holders core ≡ 0 → Reach c (entry_for entries c) memory owners holders core
 unfolding known_step_refusal
 step_reach count bytes entries c memory owners holders core h =
@@ -49,14 +47,6 @@ step_reach count bytes entries c memory owners holders core h =
     go true true b r p q h = absurd (omega (arith, h))
     go true false false r p q h = absurd (omega (arith, h))
     go true false true false p q h = absurd (omega (arith, h))
-
--- a refusal and an entry that are the definitions' make the step that is the definition's, and reach what is there
-module _ (count bytes entries : ℕ) (c : Core) (memory owners holders : List ℕ) (core : ℕ) (k : EntryNumber) (n : ℕ) (pk : k ≡ entry_of entries c.address) (pn : n ≡ known_step_refusal count bytes entries c (length memory) owners holders core) where
-  pub core_by : acted_of n c k.0 memory owners holders core ≡ step_core_of count bytes entries c memory owners holders core
-  core_by = λ i. acted_of (pn i) c (pk i).0 memory owners holders core
-
-  pub core_reached : n ≡ 0 → Reach c k.0 (length memory) owners holders core
-  core_reached z = rw pk (step_reach count bytes entries c (length memory) owners holders core (sym pn ∙ z))
 
 -- a poke or a show that is not refused has its word in memory
 pub word_reached : (bytes memory : ℕ) (a : GuestAddress) → known_word_refusal bytes memory a ≡ 0 → a.0 + 4 ≤ memory
@@ -110,18 +100,18 @@ module _ (m : Machine) (ranges : in_ranges m ≡ true) where
           rw (ranges, e, le-ltb _ _ w, z)
       go false e = rw (ranges, e)
 
-  give_is : (core : ℕ) (o : Operation) → granted_at m core (give_core_of m.count m.bytes (picked m core) core o) ≡ give_of m core o
+  pub give_is : (core : ℕ) (o : Operation) → granted_at m core (give_core_of m.count m.bytes (picked m core) core o) ≡ give_of m core o
   give_is core o =
       give_put m core o (give_core_of m.count m.bytes (picked m core) core o).core (give_core_of m.count m.bytes (picked m core) core o).answer
       (ap (λ (n : ℕ). given_unless n (picked m core) o) (give_same core o)) (ap (λ (n : ℕ). taken_unless n) (give_same core o))
 
-  step_is : (core : ℕ) (memory owners holders : List ℕ) → stepped_at m core (step_core_of m.count m.bytes m.entries (picked m core) memory owners holders core) ≡ step_of m memory owners holders core
+  pub step_is : (core : ℕ) (memory owners holders : List ℕ) → stepped_at m core (step_core_of m.count m.bytes m.entries (picked m core) memory owners holders core) ≡ step_of m memory owners holders core
   step_is core memory owners holders =
       let a = step_core_of m.count m.bytes m.entries (picked m core) memory owners holders core in
       step_put m memory owners holders a.memory a.owners a.holders core a.step
       (ap (λ (n : ℕ). acted_of n (picked m core) (entry_for m.entries (picked m core)) memory owners holders core) (step_same core (length memory) owners holders))
 
-  poke_is : (memory : List ℕ) (a : GuestAddress) (v : ℕ)
+  pub poke_is : (memory : List ℕ) (a : GuestAddress) (v : ℕ)
       → poke_outcome (called_at (poke_word_of m.bytes memory a v).stepped m) (poke_word_of m.bytes memory a v).memory ≡ poke_of m memory a v
   unfolding poke_word_of poke_of
   poke_is memory a v = go (eqb (word_refusal m (length memory) a) 0) refl
@@ -131,7 +121,7 @@ module _ (m : Machine) (ranges : in_ranges m ≡ true) where
       go true e = rw (word_same (length memory) a, e)
       go false e = rw (word_same (length memory) a, e)
 
-  show_is : (memory : List ℕ) (a : GuestAddress) → answered (show_word_of m.bytes memory a) m ≡ show_of m memory a
+  pub show_is : (memory : List ℕ) (a : GuestAddress) → answered (show_word_of m.bytes memory a) m ≡ show_of m memory a
   unfolding show_word_of show_of
   show_is memory a = go (eqb (word_refusal m (length memory) a) 0) refl
     where

@@ -15,7 +15,7 @@ use Rattle.rules.specs.declared.state.Machine.{Machine}
 use Rattle.rules.specs.declared.state.Called.{Called}
 use Rattle.machine.specs.Place.{called_at}
 use Rattle.machine.specs.Acted.{picked, given_unless, taken_unless, Acted, acted_of}
-use Rattle.machine.specs.declared.calls.Grant.{Grant}
+use Rattle.machine.specs.declared.known.Grant.{Grant}
 use Rattle.machine.specs.declared.place.Stepped.{Stepped}
 
 abbrev pub lent_are : ℕ → ℕ → ℕ → ℕ → ℕ → Bool

@@ -10,8 +10,8 @@ mod place;
 mod ranges;
 mod word;
 
-pub use calls::{Grant, poke, show, start};
-pub use known::{give_core, poke_word, show_word, step_core};
+pub use calls::{poke, show, start};
+pub use known::{Grant, give_core, poke_word, show_word, step_core};
 pub use place::{Stepped, give, give_in_place, step, step_in_place};
 pub use rules::{
     Answer, Called, Core, GuestAddress, Handed, Machine, MicroStep, Operation, Record, Refusal,

@@ -21,19 +21,3 @@ pub(crate) fn write_word(memory: &mut [u8], address: GuestAddress, value: u32)
     let at = address.place();
     memory[at..at + 4].copy_from_slice(&value.to_le_bytes());
 }
-
-// A write that happens only where it is wanted.
-pub(crate) fn write_word_if(wanted: bool, memory: &mut [u8], address: GuestAddress, value: u32)
-    requires { address.0 + 4 ≤ length memory.old }
-    ensures { memory.new ≡ (if wanted then write_word memory.old address value else memory.old) }
-{
-    if wanted {
-        write_word(memory, address, value);
-    }
-}
-
-pub(crate) fn clear(bytes: &mut [u8])
-    ensures { bytes.new ≡ replicate (length bytes.old) 0 }
-{
-    bytes.fill(0);
-}
