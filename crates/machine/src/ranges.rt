@@ -48,15 +48,20 @@ const PASSED: u64 = 103079215104;
 // Every stage up to sc 4.
 const ANY: u64 = 137438953471;
 
+// One of two, chosen and not branched on: as a function of its own it stays so.
+fn choose<T: Copy>(test: bool, yes: T, no: T) -> T
+    ensures { result ≡ (if test then yes else no) }
+{
+    if test { yes } else { no }
+}
+
 // One test of a core's numbers and flags at once.
 #[tactic(auto, unfolding(crate::specs::Looked::can_be_at))]
 fn can_be_at(c: Core, stage: u64) -> bool
     requires { stage < 64 }
     ensures { result ≡ can_be_at c.busy c.passed stage }
 {
-    let at_rest_or_not = if c.busy { BUSY } else { IDLE };
-    let passed_or_not = if c.passed { PASSED } else { ANY };
-    let stages = at_rest_or_not & passed_or_not;
+    let stages = choose(c.busy, BUSY, IDLE) & choose(c.passed, PASSED, ANY);
     (stages >> stage) % 2 == 1
 }
 
@@ -65,8 +70,8 @@ fn can_be_at(c: Core, stage: u64) -> bool
 fn spare_are_0(c: Core, stage: u64) -> bool
     ensures { result ≡ spare_are0 c stage }
 {
-    let value = if 25 <= stage { 0 } else { c.value };
-    let read = if stage == 20 { 0 } else { c.read };
+    let value = choose(25 <= stage, 0, c.value);
+    let read = choose(stage == 20, 0, c.read);
     (value == 0) & (read == 0)
 }
 
@@ -99,7 +104,7 @@ fn words_for(count: usize, bytes: usize, at: usize) -> u32
 fn room_of(used: bool, words: u32) -> u32
     ensures { result ≡ room_of used words }
 {
-    if used { words } else { 1 }
+    choose(used, words, 1)
 }
 
 #[tactic(auto, unfolding(crate::specs::Looked::core_looks_right, crate::specs::Looked::looks_right_at))]
