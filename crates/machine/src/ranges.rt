@@ -45,8 +45,6 @@ const IDLE: u64 = 1;
 const BUSY: u64 = 129354301952;
 // sc 3 and 4, where its step 2 passed.
 const PASSED: u64 = 103079215104;
-// Every stage up to sc 4.
-const ANY: u64 = 137438953471;
 
 // One of two, chosen and not branched on: as a function of its own it stays so.
 fn choose<T: Copy>(test: bool, yes: T, no: T) -> T
@@ -61,8 +59,9 @@ fn can_be_at(c: Core, stage: u64) -> bool
     requires { stage < 64 }
     ensures { result ≡ can_be_at c.busy c.passed stage }
 {
-    let stages = choose(c.busy, BUSY, IDLE) & choose(c.passed, PASSED, ANY);
-    (stages >> stage) % 2 == 1
+    let busy = choose(c.passed, PASSED, BUSY);
+    let at_rest = choose(c.passed, 0, IDLE);
+    (choose(c.busy, busy, at_rest) >> stage) % 2 == 1
 }
 
 // A field that is not in use must be 0.
