@@ -6,6 +6,7 @@ ghost use Rattle.std.specs.Prelude.{◌≡◌, length};
 ghost use Rattle.rules.specs.Calls.{address_refusal};
 ghost use Rattle.machine.specs.Acted.{acted};
 ghost use Rattle.machine.specs.Known.{
+  entry_for,
   known_step_refusal,
   step_core_of,
   known_give_refusal,
@@ -37,11 +38,13 @@ fn address_refusal(bytes: usize, a: GuestAddress) -> Result<(), Refusal>
 fn step_refusal(
     sizes: Sizes,
     c: Core,
+    e: usize,
     memory: usize,
     owners: &[u8],
     holders: &[u8],
     core: usize,
 ) -> Result<(), Refusal>
+    requires { e ≡ entry_for sizes c }
     ensures { result ≡ known_step_refusal sizes c memory owners.now holders.now core }
 {
     let entries = sizes.entries;
@@ -54,7 +57,6 @@ fn step_refusal(
     if !c.busy {
         return Err(Refusal::Idle);
     }
-    let e = entry_of(entries, c.address).0;
     if !((core < 8) & (e < entries) & (c.address.place() + 4 <= sizes.bytes)) {
         return Err(Refusal::OutOfRange);
     }
@@ -76,8 +78,8 @@ pub fn step_core(
 ) -> Result<MicroStep, Refusal>
     ensures { acted result memory.new owners.new holders.new ≡ step_core_of sizes c memory.old owners.old holders.old core }
 {
-    step_refusal(sizes, c, memory.len(), owners, holders, core)?;
     let e = entry_of(sizes.entries, c.address).0;
+    step_refusal(sizes, c, e, memory.len(), owners, holders, core)?;
     let word = word::read_word(memory, c.address);
     let did = c.micro_step(core, owners[e], holders[e], word);
     owners[e] = did.owner;
