@@ -1,6 +1,6 @@
 -- The records of a run are good, and so the run can be archived.
 -- Assumes nothing.
-use Rattle.std.proofs.Common.{if◌then◌else◌}
+use Rattle.std.proofs.Common.{Option, Some, None, ap, if◌then◌else◌}
 use mathlib.Core.Path.{◌≡◌, refl, sym, ap, subst, ◌∙◌}
 use mathlib.Core.Bool.{Bool, true, false, ◌&&◌}
 use mathlib.Core.List.{List, [], ◌∷◌, reverse, reverse_aux}
@@ -8,7 +8,7 @@ use Prim.Native.Nat.{ℕ, zero, suc, ◌^◌, ◌≤◌, ◌<◌}
 use native.Mathlib.Omega.{arith}
 use lib.ListN.{length, replicate, length-reverse}
 use lib.Dec.{eqb, leb}
-use borrow.Author.Tests.{eqb-true, eqb-false, eq-eqb, le-leb, lt-ltb}
+use borrow.Author.Tests.{eqb-true, eq-eqb, le-leb, lt-ltb}
 use Rattle.rules.specs.Word.{read_word}
 use Rattle.rules.specs.Kinds.{address_of, value_of, poke_core, poke_kind}
 use Rattle.rules.specs.Refusals.{number_in}
@@ -20,6 +20,7 @@ use Rattle.rules.specs.Runs.{Call, give, step, poke, Fresh, act, after, records,
 use Rattle.rules.specs.declared.entry.GuestAddress.{GuestAddress}
 use Rattle.rules.specs.declared.entry.EntryNumber.{EntryNumber}
 use Rattle.rules.specs.declared.answers.Operation.{Operation}
+use Rattle.rules.specs.declared.answers.Record.{Record}
 use Rattle.rules.specs.declared.answers.Operation.TheVariants as Asked
 use Rattle.rules.proofs.Accepted.{Inside, sizes_fit_lem, core_small, give_accepted, step_accepted, word_accepted}
 use Rattle.rules.proofs.Numbers.{by_zero, not_refused, start_number, give_number, step_number, poke_number}
@@ -171,7 +172,7 @@ zero_bytes (suc k) (suc i) = zero_bytes k i
 
 fresh_bytes : (fresh : Outcome) → Fresh fresh → Bytes fresh.memory
 fresh_bytes fresh f =
-    let z = start_number f.count f.memory f.owners f.holders ∙ f.accepted in
+    let z = start_number f.count f.memory f.owners f.holders ∙ ap number_in f.accepted in
     subst Bytes (sym (ap (λ (o : Outcome). o.memory) f.started ∙ (range_laws.start_zero f.count f.memory f.owners f.holders z).0)) (zero_bytes (length f.memory))
 
 pub records_are_good : RecordsAreGood

@@ -1,5 +1,5 @@
 -- Document 01, "Small runs": "3 cores, 64 bytes, 4 entries, fresh, each operation run whole. Marked P: proved."
-use Rattle.std.specs.Prelude.{◌≡◌, List, [], ◌∷◌, ◌++◌, ℕ, replicate, if◌then◌else◌}
+use Rattle.std.specs.Prelude.{◌≡◌, List, [], ◌∷◌, ◌++◌, ℕ, replicate}
 use Rattle.rules.specs.Word.{read_word}
 use Rattle.rules.specs.Calls.{Outcome, start_of}
 use Rattle.rules.specs.Reference.{Whole, does, pokes}
