@@ -1,23 +1,28 @@
 -- What a `new` leaves, and the lines before the first that is accepted.
 -- Assumes nothing.
+use Rattle.std.specs.Prelude.{Option, Some, None, is_some}
+use Rattle.std.specs.Option.{option_map_or}
 use Rattle.std.proofs.Common.{if◌then◌else◌}
 use mathlib.Core.Path.{◌≡◌, refl, ap, ◌∙◌, sym, subst}
 use mathlib.Core.Bool.{Bool, true, false, ◌&&◌, true≢false}
-use mathlib.Core.List.{List}
+use mathlib.Core.List.{List, ◌++◌}
 use Prim.Native.Nat.{ℕ}
 use native.Mathlib.Omega.{arith}
-use lib.ListN.{length, take, take-append-drop}
+use lib.ListN.{length, take, drop, take-append-drop}
 use lib.Seq.{length-take-le}
 use lib.Dec.{eqb, leb}
 use borrow.Author.Tests.{eqb-false, leb-true}
 use Rattle.rules.specs.Answers.{number_of}
 use Rattle.rules.specs.Calls.{Outcome, outcome, refused, all_idle, started, start_refusal, start_of}
+use Rattle.rules.specs.declared.state.Machine.{Machine}
+use Rattle.rules.specs.declared.state.Called.{Called}
 use Rattle.commands.specs.Grammar.{command_of}
-use Rattle.commands.specs.Effect.{After, after, refused_ran, stands, new_fits, after_start, new_of, run_command, run_line}
+use Rattle.commands.specs.Effect.{After, after, refused_ran, started_ran, stands, new_fits, after_start, new_of, once_begun, give_line, step_line, poke_line, show_line, run_command, run_line}
 use Rattle.commands.specs.Promises.{Kept, RefusedNewLeaves, Afresh, AcceptedNewStartsAfresh, is_new, NineBeforeTen}
 use Rattle.commands.specs.declared.grammar.Command.{Command}
-use Rattle.commands.specs.declared.grammar.Command.TheVariants.{NotUnderstood, New, NewWith, Give, Step, Poke, Show}
+use Rattle.commands.specs.declared.grammar.Command.TheVariants.{New, Give, Step, Poke, Show}
 use Rattle.commands.specs.declared.effect.Session.{Session}
+use Rattle.commands.specs.declared.effect.Ran.{Ran}
 use Rattle.commands.proofs.Bools.{and₂}
 
 module _ (session : Session) (memory owners holders : List ℕ) (cores bytes entries : ℕ) where
@@ -82,6 +87,16 @@ module _ (session : Session) (memory owners holders : List ℕ) (cores bytes ent
   new_afresh true f h = accepted_afresh refusal (eqb refusal 0) refl f h
   new_afresh false f h = absurd (omega (arith, h))
 
+-- as the code tells
+pub after_new : (session : Session) (memory owners holders : List ℕ) (cores bytes entries : ℕ) → new_fits bytes entries (length memory) (length owners) (length holders) ≡ true
+    → (called : Called) (m' o' h' : List ℕ) → outcome called m' o' h' ≡ start_of cores (take bytes memory) (take entries owners) (take entries holders)
+    → (ran : Ran) → ran ≡ started_ran session called
+    → after ran (m' ++ drop bytes memory) (o' ++ drop entries owners) (h' ++ drop entries holders) ≡ new_of session memory owners holders cores bytes entries
+unfolding new_of
+after_new session memory owners holders cores bytes entries fits called m' o' h' e ran r =
+    let there : after ran (m' ++ drop bytes memory) (o' ++ drop entries owners) (h' ++ drop entries holders) ≡ after_start session bytes entries memory owners holders (outcome called m' o' h') = rw r in
+    rw fits (there ∙ ap (after_start session bytes entries memory owners holders) e)
+
 pub refused_new_leaves : RefusedNewLeaves
 refused_new_leaves session memory owners holders cores bytes entries h =
     let e = by_tests session memory owners holders cores bytes entries in
@@ -95,21 +110,28 @@ accepted_new_starts_afresh session memory owners holders cores bytes entries h =
     (new_afresh session memory owners holders cores bytes entries (fits session memory owners holders cores bytes entries) refl (ap (λ (a : After). number_of a.ran.answer) (sym e) ∙ h))
 
 -- no machine stands
-before_begun : (session : Session) (memory owners holders : List ℕ) (c : Command) → stands session ≡ false → (c ≡ NotUnderstood → ⊥) → is_new c ≡ false
-    → run_command session memory owners holders c ≡ after (refused_ran 10 session) memory owners holders
-unfolding run_command
-before_begun session memory owners holders NotUnderstood b u n = absurd (u refl)
-before_begun session memory owners holders (New cores bytes) b u n = absurd (true≢false n)
-before_begun session memory owners holders (NewWith cores bytes entries) b u n = absurd (true≢false n)
-before_begun session memory owners holders (Give core operation) b u n = rw b
-before_begun session memory owners holders (Step core) b u n = rw b
-before_begun session memory owners holders (Poke a v) b u n = rw b
-before_begun session memory owners holders (Show a) b u n = rw b
+module _ (memory owners holders : List ℕ) where
+  none_stands : (session : Session) (done : Machine → After) → stands session ≡ false → once_begun session memory owners holders done ≡ after (refused_ran 10 session) memory owners holders
+  none_stands session done b = go session.machine refl b
+    where
+      go : (m : Option Machine) → session.machine ≡ m → is_some m ≡ false → option_map_or done m (after (refused_ran 10 session) memory owners holders) ≡ after (refused_ran 10 session) memory owners holders
+      go None e b = refl
+      go (Some m) e b = absurd (true≢false b)
+
+  before_begun : (session : Session) (c : Option Command) → stands session ≡ false → (c ≡ None → ⊥) → is_new c ≡ false
+      → run_command session memory owners holders c ≡ after (refused_ran 10 session) memory owners holders
+  unfolding run_command
+  before_begun session None b u n = absurd (u refl)
+  before_begun session (Some (New cores bytes entries)) b u n = absurd (true≢false n)
+  before_begun session (Some (Give core operation)) b u n = none_stands session (λ m. after (give_line m core operation) memory owners holders) b
+  before_begun session (Some (Step core)) b u n = none_stands session (λ m. step_line m memory owners holders core) b
+  before_begun session (Some (Poke a v)) b u n = none_stands session (λ m. poke_line m memory owners holders a v) b
+  before_begun session (Some (Show a)) b u n = none_stands session (λ m. after (show_line m memory a) memory owners holders) b
 
 pub nine_before_ten : NineBeforeTen
 unfolding run_line run_command
 nine_before_ten session memory owners holders line =
     record {
       nine = λ e. ap (run_command session memory owners holders) e;
-      ten = λ b u n. before_begun session memory owners holders (command_of line) b u n;
+      ten = λ b u n. before_begun memory owners holders session (command_of line) b u n;
     }

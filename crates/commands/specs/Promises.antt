@@ -1,5 +1,5 @@
 -- What a line of script promises, beside what each call's contract says of it. The proofs are in proofs/Handed, ReadBack, ShortSteps, OneLine, Answers, Numbered and Begun, under these names: FirstBytesDecide is proved by first_bytes_decide.
-use Rattle.std.specs.Prelude.{ℕ, ◌+◌, ◌≤◌, ◌<◌, ◌≡◌, Bool, true, false, List, [], ◌∷◌, ◌++◌, length, take, drop, replicate}
+use Rattle.std.specs.Prelude.{ℕ, ◌+◌, ◌≤◌, ◌<◌, ◌≡◌, Bool, true, false, Option, Some, None, List, [], ◌∷◌, ◌++◌, length, take, drop, replicate}
 use Rattle.rules.specs.Answers.{number_of, values_of}
 use Rattle.rules.specs.Calls.{all_idle}
 use Rattle.rules.specs.declared.answers.Answer.{Answer}
@@ -12,9 +12,8 @@ use Rattle.commands.specs.Decimal.{decimal}
 use Rattle.commands.specs.Grammar.{step_word, command_of, short_step, line_of}
 use Rattle.commands.specs.Effect.{stands, After, after, running, refused_ran, new_of, run_line}
 use Rattle.commands.specs.Texts.{words_of, newline, line_room, answer_line, line_number, counted_on, digits_of}
-use Rattle.commands.specs.declared.decimal.Number.TheVariants.{Is}
 use Rattle.commands.specs.declared.grammar.Command.{Command}
-use Rattle.commands.specs.declared.grammar.Command.TheVariants.{NotUnderstood, New, NewWith, Give, Step, Poke, Show}
+use Rattle.commands.specs.declared.grammar.Command.TheVariants.{New, Give, Step, Poke, Show}
 use Rattle.commands.specs.declared.effect.Session.{Session}
 
 -- "at most 80 bytes before the newline": a longer line is the same line for the rules as its first 81 bytes
@@ -32,11 +31,10 @@ SmallOperation (Ll a) = Small a.0
 SmallOperation (Store a v) = Small a.0 × Small v
 SmallOperation (Sc a v) = Small a.0 × Small v
 
--- a command that is understood, with numbers that can be written
+-- a command with numbers that can be written
 abbrev pub Writable : Command → Type 0
-Writable NotUnderstood = ⊥
-Writable (New cores bytes) = Small cores × Small bytes
-Writable (NewWith cores bytes entries) = Small cores × Small bytes × Small entries
+Writable (New cores bytes None) = Small cores × Small bytes
+Writable (New cores bytes (Some entries)) = Small cores × Small bytes × Small entries
 Writable (Give core operation) = Small core × SmallOperation operation
 Writable (Step core) = Small core
 Writable (Poke a v) = Small a.0 × Small v
@@ -44,24 +42,24 @@ Writable (Show a) = Small a.0
 
 -- a command that is written and read is the same command
 abbrev pub RoundTrip : Type 0
-RoundTrip = (c : Command) → Writable c → command_of (line_of c) ≡ c
+RoundTrip = (c : Command) → Writable c → command_of (line_of c) ≡ Some c
 
 -- bytes that begin with a step of one digit and its newline: that line's command
 pub record ShortStep (s : List ℕ) (core : ℕ) : Type 0 where
   pub one_digit : core ≤ 9
   pub line : s ≡ step_word ++ (48 + core) ∷ newline ∷ drop 7 s
-  pub command : command_of (step_word ++ (48 + core) ∷ []) ≡ Step core
+  pub command : command_of (step_word ++ (48 + core) ∷ []) ≡ Some (Step core)
 
 abbrev pub ShortSteps : Type 0
-ShortSteps = (s : List ℕ) (core : ℕ) → short_step s ≡ Is core → ShortStep s core
+ShortSteps = (s : List ℕ) (core : ℕ) → short_step s ≡ Some core → ShortStep s core
 
 -- a line that is understood is the line of its command
 abbrev pub UnderstoodIsWritten : Type 0
-UnderstoodIsWritten = (line : List ℕ) → (command_of line ≡ NotUnderstood → ⊥) → line ≡ line_of (command_of line)
+UnderstoodIsWritten = (line : List ℕ) (c : Command) → command_of line ≡ Some c → line ≡ line_of c
 
 -- "without needless zeros", "single spaces": two different lines are never the same command
 abbrev pub OnlyOne : Type 0
-OnlyOne = (line other : List ℕ) → command_of line ≡ command_of other → (command_of line ≡ NotUnderstood → ⊥) → line ≡ other
+OnlyOne = (line other : List ℕ) → command_of line ≡ command_of other → (command_of line ≡ None → ⊥) → line ≡ other
 
 -- "line number from 1, answer number, then" words, with single spaces between them and a newline at the end
 pub record AnswerParts (number : ℕ) (answer : Answer) : Type 0 where
@@ -121,19 +119,18 @@ AcceptedNewStartsAfresh =
     → Afresh memory owners holders cores bytes entries (new_of session memory owners holders cores bytes entries)
 
 -- `new CORES BYTES [ENTRIES]`
-abbrev pub is_new : Command → Bool
-is_new NotUnderstood = false
-is_new (New cores bytes) = true
-is_new (NewWith cores bytes entries) = true
-is_new (Give core operation) = false
-is_new (Step core) = false
-is_new (Poke a v) = false
-is_new (Show a) = false
+abbrev pub is_new : Option Command → Bool
+is_new None = false
+is_new (Some (New cores bytes entries)) = true
+is_new (Some (Give core operation)) = false
+is_new (Some (Step core)) = false
+is_new (Some (Poke a v)) = false
+is_new (Some (Show a)) = false
 
 -- "script 9, 10": a line that is not understood is answered 9 whether or not a machine stands; any other but a `new` is answered 10 where none stands
 pub record NineThenTen (session : Session) (memory owners holders line : List ℕ) : Type 0 where
-  pub nine : command_of line ≡ NotUnderstood → run_line session memory owners holders line ≡ after (refused_ran 9 session) memory owners holders
-  pub ten : stands session ≡ false → (command_of line ≡ NotUnderstood → ⊥) → is_new (command_of line) ≡ false
+  pub nine : command_of line ≡ None → run_line session memory owners holders line ≡ after (refused_ran 9 session) memory owners holders
+  pub ten : stands session ≡ false → (command_of line ≡ None → ⊥) → is_new (command_of line) ≡ false
       → run_line session memory owners holders line ≡ after (refused_ran 10 session) memory owners holders
 
 abbrev pub NineBeforeTen : Type 0

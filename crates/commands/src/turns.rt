@@ -2,8 +2,6 @@
 // change goes in, and comes back as it leaves it.
 ghost use Rattle.std.specs.Prelude.{◌≡◌, length};
 ghost use Rattle.commands.specs.Turns.{
-  none,
-  one,
   one_core,
   did_outcome,
   no_turn,
@@ -14,17 +12,8 @@ ghost use Rattle.commands.specs.Turns.{
   act_on,
 };
 
-use crate::effect::used;
 use crate::grammar::Command;
 use machine::{Answer, Core, GuestAddress, Handed, Operation};
-
-// Whether a command leaves the machine as it is but for one core, and which: a give and a step change their own; a
-// poke and a show change none, and any core will do.
-#[derive(Clone, Copy)]
-pub struct OneCore {
-    pub one: bool,
-    pub core: usize,
-}
 
 // What a command answers, the record that it makes, if it makes one, and what becomes of the core.
 #[derive(Clone, Copy)]
@@ -34,35 +23,17 @@ pub struct Did {
     pub core: Core,
 }
 
-fn no_core() -> OneCore
-    ensures { result ≡ none }
-{
-    OneCore {
-        one: false,
-        core: 0,
-    }
-}
-
-fn own_core(core: u32) -> OneCore
-    ensures { result ≡ one core }
-{
-    OneCore {
-        one: true,
-        core: core as usize,
-    }
-}
-
-pub fn one_core_of(command: Command) -> OneCore
+// The one core that a command may change, where it leaves the machine as it is but for that: a give and a step change
+// their own; a poke and a show change none, and any core will do.
+pub fn one_core_of(command: Option<Command>) -> Option<usize>
     ensures { result ≡ one_core command }
 {
-    match command {
-        Command::NotUnderstood => no_core(),
-        Command::New(_, _) => no_core(),
-        Command::NewWith(_, _, _) => no_core(),
-        Command::Give(core, _) => own_core(core),
-        Command::Step(core) => own_core(core),
-        Command::Poke(_, _) => own_core(0),
-        Command::Show(_) => own_core(0),
+    match command? {
+        Command::New { .. } => None,
+        Command::Give(core, _) => Some(core as usize),
+        Command::Step(core) => Some(core as usize),
+        Command::Poke(_, _) => Some(0),
+        Command::Show(_) => Some(0),
     }
 }
 
@@ -104,9 +75,9 @@ fn step_turn(
 ) -> Did
     ensures { did_outcome result memory.new owners.new holders.new ≡ step_turn count bytes entries c memory.old owners.old holders.old core }
 {
-    let b = used(bytes, memory.len());
-    let o = used(entries, owners.len());
-    let h = used(entries, holders.len());
+    let b = bytes.min(memory.len());
+    let o = entries.min(owners.len());
+    let h = entries.min(holders.len());
     let step = machine::step_core(
         count,
         bytes,
@@ -128,7 +99,7 @@ fn poke_turn(bytes: usize, c: Core, memory: &mut [u8], address: GuestAddress, va
     ensures value { result ≡ (poke_turn bytes c memory.old address value).did }
     ensures memory_after { memory.new ≡ (poke_turn bytes c memory.old address value).memory }
 {
-    let b = used(bytes, memory.len());
+    let b = bytes.min(memory.len());
     let poked = machine::poke_word(bytes, &mut memory[..b], address, value);
     let answer = poked.answer;
     let made = poked.made;
@@ -143,7 +114,7 @@ fn poke_turn(bytes: usize, c: Core, memory: &mut [u8], address: GuestAddress, va
 fn show_turn(bytes: usize, c: Core, memory: &[u8], address: GuestAddress) -> Did
     ensures { result ≡ show_turn bytes c memory.now address }
 {
-    let b = used(bytes, memory.len());
+    let b = bytes.min(memory.len());
     let answer = machine::show_word(bytes, &memory[..b], address);
     Did {
         answer,
@@ -163,17 +134,18 @@ pub fn act(
     memory: &mut [u8],
     owners: &mut [u8],
     holders: &mut [u8],
-    command: Command,
+    command: Option<Command>,
 ) -> Did
     ensures { did_outcome result memory.new owners.new holders.new ≡ act_on count bytes entries c memory.old owners.old holders.old command }
 {
     match command {
-        Command::NotUnderstood => no_turn(c),
-        Command::New(_, _) => no_turn(c),
-        Command::NewWith(_, _, _) => no_turn(c),
-        Command::Give(core, operation) => give_turn(count, bytes, c, core, operation),
-        Command::Step(core) => step_turn(count, bytes, entries, c, memory, owners, holders, core),
-        Command::Poke(address, value) => poke_turn(bytes, c, memory, address, value),
-        Command::Show(address) => show_turn(bytes, c, memory, address),
+        None => no_turn(c),
+        Some(Command::New { .. }) => no_turn(c),
+        Some(Command::Give(core, operation)) => give_turn(count, bytes, c, core, operation),
+        Some(Command::Step(core)) => {
+            step_turn(count, bytes, entries, c, memory, owners, holders, core)
+        }
+        Some(Command::Poke(address, value)) => poke_turn(bytes, c, memory, address, value),
+        Some(Command::Show(address)) => show_turn(bytes, c, memory, address),
     }
 }
