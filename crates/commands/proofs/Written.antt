@@ -4,7 +4,8 @@ use Rattle.std.proofs.Common.{if◌then◌else◌}
 use mathlib.Core.Path.{◌≡◌, refl, ap, ◌∙◌, sym}
 use mathlib.Core.Bool.{Bool, true, false}
 use mathlib.Core.List.{List, [], ◌∷◌, ◌++◌, append_assoc}
-use Prim.Native.Nat.{ℕ, zero, suc, ◌+◌, ◌-◌, ◌/◌, ◌%◌, ◌≤◌, ◌<◌}
+use Prim.Native.Nat.{ℕ, zero, suc, ◌+◌, ◌-◌, ◌*◌, ◌/◌, ◌%◌, ◌^◌, ◌≤◌, ◌<◌}
+use native.Mathlib.Nat.{pow-succ'}
 use native.Mathlib.Numerals.{add-one}
 use native.Mathlib.Omega.{arith}
 use lib.ListN.{length, take, drop, set, length-set, length-append}
@@ -60,10 +61,14 @@ one_some n = go (leb n 9) refl
     go true e = let h = one_in_all n (leb-true n 9 e) in omega arith
     go false e = let h = one_more n (leb-false n 9 e) in omega arith
 
-pub four_more : (n : ℕ) → 9999 < n → length (decimal n) ≡ 4 + length (decimal (n / 10000))
-four_more n l =
-    let e : n / 10 / 10 / 10 / 10 ≡ n / 10000 = omega arith in
-    one_more n (omega arith) ∙ rw (one_more (n / 10) (omega arith), one_more (n / 10 / 10) (omega arith), one_more (n / 10 / 10 / 10) (omega arith), e) (omega arith)
+-- by its powers of ten
+pub digits_by_tens : (k n : ℕ) → 10 ^ k ≤ n → n < 10 * 10 ^ k → length (decimal n) ≡ 1 + k
+digits_by_tens zero n low high = one_in_all n (omega (arith, high))
+digits_by_tens (suc k) n low high =
+    let p = pow-succ' 10 k in
+    let rest = digits_by_tens k (n / 10) (omega (arith, p, low)) (omega (arith, p, high)) in
+    let more = one_more n (omega (arith, p, low, high)) in
+    omega (arith, rest, more)
 
 -- a text whose last byte stands in its place already
 put_last : (s : List ℕ) (x at : ℕ) (out : List ℕ) → at + length s < length out → put_in (s ++ x ∷ []) at out ≡ put_in s at (set out (at + length s) x)

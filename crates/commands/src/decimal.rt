@@ -11,12 +11,6 @@ pub(crate) struct Field {
     pub next: Option<usize>,
 }
 
-pub(crate) fn is_digit(b: u8) -> bool
-    ensures { result ≡ is_digit b }
-{
-    (48 <= b) & (b <= 57)
-}
-
 // The number that a field says, if it says one.
 #[tactic(auto, using(crate::proofs::Digits::nothing, crate::proofs::Digits::needless, crate::proofs::Digits::no_digit, crate::proofs::Digits::large, crate::proofs::Digits::reading_ends))]
 fn number_in(field: &[u8]) -> Option<u32>
@@ -31,10 +25,10 @@ fn number_in(field: &[u8]) -> Option<u32>
     }
     let mut value = 0u32;
     for b in field {
-        if !is_digit(*b) {
+        if !b.is_ascii_digit() {
             return None;
         }
-        value = value.checked_mul(10)?.checked_add((*b - 48) as u32)?;
+        value = value.checked_mul(10)?.checked_add((*b - b'0') as u32)?;
     }
     Some(value)
 }
@@ -64,37 +58,16 @@ pub(crate) fn field_of(line: &[u8]) -> Field
     }
 }
 
-// How many digits a number of at most four has.
-fn few_digits(n: u64) -> usize
-    requires { n < 10000 }
-    ensures value { result ≡ length (decimal n) }
-    ensures upper_bound { result ≤ 4 }
-{
-    if n < 100 {
-        if n < 10 { 1 } else { 2 }
-    } else {
-        if n < 1000 { 3 } else { 4 }
-    }
-}
-
 // How many digits a number has.
+#[tactic(auto, using(crate::proofs::Written::digits_by_tens, crate::proofs::Written::one_in_all))]
 fn count_digits(n: u64) -> usize
     ensures value { result ≡ length (decimal n) }
     ensures upper_bound { result ≤ 20 }
 {
-    if n < 10000 {
-        return few_digits(n);
+    match n.checked_ilog10() {
+        None => 1,
+        Some(tens) => 1 + tens as usize,
     }
-    if n < 100000000 {
-        return 4 + few_digits(n / 10000);
-    }
-    if n < 1000000000000 {
-        return 8 + few_digits(n / 100000000);
-    }
-    if n < 10000000000000000 {
-        return 12 + few_digits(n / 1000000000000);
-    }
-    16 + few_digits(n / 10000000000000000)
 }
 
 // Writes a number's digits in at a place, the last first and two to a division, and answers where they end.

@@ -13,7 +13,7 @@ ghost use Rattle.commands.specs.Grammar.{
   short_step,
 };
 
-use crate::decimal::{field_of, is_digit};
+use crate::decimal::field_of;
 use machine::{GuestAddress, Operation};
 
 // A line that is understood says one of these. An entry count that is left out stays left out.
@@ -177,8 +177,8 @@ pub fn short_step(bytes: &[u8]) -> Option<u32>
     ensures { result ≡ short_step bytes.now }
 {
     match bytes.strip_prefix(b"step ")? {
-        [digit, newline, ..] if is_digit(*digit) & (*newline == b'\n') => {
-            Some((*digit - 48) as u32)
+        [digit, newline, ..] if digit.is_ascii_digit() & (*newline == b'\n') => {
+            Some((*digit - b'0') as u32)
         }
         _ => None,
     }

@@ -30,10 +30,8 @@ pub fn one_core_of(command: Option<Command>) -> Option<usize>
 {
     match command? {
         Command::New { .. } => None,
-        Command::Give(core, _) => Some(core as usize),
-        Command::Step(core) => Some(core as usize),
-        Command::Poke(_, _) => Some(0),
-        Command::Show(_) => Some(0),
+        Command::Give(core, _) | Command::Step(core) => Some(core as usize),
+        Command::Poke(_, _) | Command::Show(_) => Some(0),
     }
 }
 
@@ -53,12 +51,10 @@ fn give_turn(count: usize, bytes: usize, c: Core, core: u32, operation: Operatio
     ensures { result ≡ give_turn count bytes c core operation }
 {
     let grant = machine::give_core(count, bytes, c, core as usize, operation);
-    let answer = grant.answer;
-    let core = grant.core;
     Did {
-        answer,
+        answer: grant.answer,
         made: Handed::Nothing,
-        core,
+        core: grant.core,
     }
 }
 
@@ -88,10 +84,11 @@ fn step_turn(
         &mut holders[..h],
         core as usize,
     );
-    let answer = step.answer;
-    let made = step.made;
-    let core = step.core;
-    Did { answer, made, core }
+    Did {
+        answer: step.answer,
+        made: step.made,
+        core: step.core,
+    }
 }
 
 // `poke ADDRESS VALUE`
@@ -101,11 +98,9 @@ fn poke_turn(bytes: usize, c: Core, memory: &mut [u8], address: GuestAddress, va
 {
     let b = bytes.min(memory.len());
     let poked = machine::poke_word(bytes, &mut memory[..b], address, value);
-    let answer = poked.answer;
-    let made = poked.made;
     Did {
-        answer,
-        made,
+        answer: poked.answer,
+        made: poked.made,
         core: c,
     }
 }
@@ -139,8 +134,7 @@ pub fn act(
     ensures { did_outcome result memory.new owners.new holders.new ≡ act_on count bytes entries c memory.old owners.old holders.old command }
 {
     match command {
-        None => no_turn(c),
-        Some(Command::New { .. }) => no_turn(c),
+        None | Some(Command::New { .. }) => no_turn(c),
         Some(Command::Give(core, operation)) => give_turn(count, bytes, c, core, operation),
         Some(Command::Step(core)) => {
             step_turn(count, bytes, entries, c, memory, owners, holders, core)
