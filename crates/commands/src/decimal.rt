@@ -70,7 +70,7 @@ fn count_digits(n: u64) -> usize
     }
 }
 
-// Writes a number's digits in at a place, the last first and two to a division, and answers where they end.
+// Writes a number's digits in at a place, the last first, and answers where they end.
 pub(crate) fn put_decimal(number: u64, out: &mut [u8], at: usize) -> usize
     requires { at + length (decimal number) ≤ length out.old }
     ensures out_after { out.new ≡ put_in (decimal number) at out.old }
@@ -78,19 +78,10 @@ pub(crate) fn put_decimal(number: u64, out: &mut [u8], at: usize) -> usize
 {
     let end = at + count_digits(number);
     let mut left = number;
-    let mut to = end;
-    while 99 < left {
-        let two = left % 100;
-        out[to - 1] = 48 + (two % 10) as u8;
-        out[to - 2] = 48 + (two / 10) as u8;
-        left = left / 100;
-        to -= 2;
+    for to in (at + 1..end).rev() {
+        out[to] = b'0' + (left % 10) as u8;
+        left /= 10;
     }
-    if 9 < left {
-        out[at + 1] = 48 + (left % 10) as u8;
-        out[at] = 48 + (left / 10) as u8;
-        return end;
-    }
-    out[at] = 48 + left as u8;
+    out[at] = b'0' + left as u8;
     end
 }

@@ -126,8 +126,7 @@ pub fn set_up(
             bytes,
             entries.unwrap_or(USUAL_ENTRIES),
         ),
-        Some(
-            Command::Give(_, _) | Command::Step(_) | Command::Poke(_, _) | Command::Show(_),
-        ) => Ran::refused(10, session),
+        Some(Command::Give(_, _) | Command::Step(_) | Command::Poke(_, _) | Command::Show(_)) =>
+            Ran::refused(10, session),
     }
 }
