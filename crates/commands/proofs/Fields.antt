@@ -1,14 +1,13 @@
 -- The first field of some bytes, by the place of the first space; and the word that they begin with.
 -- Assumes nothing.
-use Rattle.std.specs.Prelude.{Option, Some, None}
+use Rattle.std.specs.Prelude.{Some, None}
 use Rattle.std.specs.List.{position, position_or_len}
 use Rattle.std.proofs.lemmas.List.Recursion.{is_position_or_len}
 use Rattle.std.proofs.Common.{if◌then◌else◌}
 use mathlib.Core.Path.{◌≡◌, refl, ap, ◌∙◌, sym}
-use mathlib.Core.Bool.{Bool, true, false, cond, true≢false, false≢true}
+use mathlib.Core.Bool.{Bool, true, false, cond, true≢false}
 use mathlib.Core.List.{List, [], ◌∷◌}
 use Prim.Native.Nat.{ℕ, suc, ◌+◌, ◌≤◌, ◌<◌}
-use native.Mathlib.Numerals.{add-one}
 use native.Mathlib.Omega.{arith}
 use lib.ListN.{length, take, drop}
 use lib.Seq.{take_all}
@@ -16,7 +15,6 @@ use lib.Dec.{eqb, ltb}
 use borrow.Author.Tests.{ltb-true, ltb-false}
 use Rattle.commands.specs.Bytes.{space, is_space, first_field, more_fields, after_field}
 use Rattle.commands.specs.Decimal.{number_in, field_of}
-use Rattle.commands.specs.declared.decimal.Field.{Field}
 
 -- a further field follows exactly if it ends before the end
 pub more_before : (s : List ℕ) → length (first_field s) < length s → more_fields s ≡ true

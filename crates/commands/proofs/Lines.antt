@@ -4,7 +4,7 @@ use Rattle.std.specs.Prelude.{Option, Some, None, option_map, option_and_then}
 use Rattle.std.specs.Cmp.Lexicographic.{pointwise}
 use Rattle.std.proofs.Common.{if◌then◌else◌}
 use mathlib.Core.Path.{◌≡◌, refl, ap, ◌∙◌, sym}
-use mathlib.Core.Bool.{Bool, true, false, ◌&&◌, cond}
+use mathlib.Core.Bool.{Bool, true, false, ◌&&◌}
 use mathlib.Core.List.{List, [], ◌∷◌}
 use Prim.Native.Nat.{ℕ, ◌+◌, ◌-◌}
 use native.Mathlib.Numerals.{add-one}
@@ -16,9 +16,7 @@ use Rattle.commands.specs.Bytes.{begins, first_field, more_fields, after_field}
 use Rattle.commands.specs.Decimal.{number_in, field_of}
 use Rattle.commands.specs.Grammar.{numbers_of, second_number, third_number, step_command, give_command, operation_of}
 use Rattle.commands.specs.declared.decimal.Field.{Field}
-use Rattle.commands.specs.declared.grammar.Numbers.{Numbers}
 use Rattle.commands.specs.declared.grammar.Numbers.TheVariants.{One, Two, Three}
-use Rattle.commands.specs.declared.grammar.Command.{Command}
 use Rattle.commands.specs.declared.grammar.Command.TheVariants.{Step, Give}
 use Rattle.commands.proofs.Fields.{after_field_lem}
 

@@ -1,7 +1,7 @@
 -- A line that is understood is the line of its command.
 -- Assumes nothing.
 use Rattle.std.specs.Prelude.{Option, Some, None, IfSome, option_map, option_and_then}
-use Rattle.std.proofs.lemmas.Option.{cond_some, same_Some}
+use Rattle.std.proofs.lemmas.Option.{cond_some}
 use Rattle.std.proofs.Common.{if◌then◌else◌}
 use mathlib.Core.Path.{◌≡◌, refl, ap, ◌∙◌, sym, subst}
 use mathlib.Core.Bool.{Bool, true, false, not, ◌&&◌, true≢false, false≢true}
@@ -21,7 +21,7 @@ use Rattle.commands.specs.Promises.{UnderstoodIsWritten, OnlyOne}
 use Rattle.commands.specs.declared.grammar.Numbers.{Numbers}
 use Rattle.commands.specs.declared.grammar.Numbers.TheVariants.{One, Two, Three}
 use Rattle.commands.specs.declared.grammar.Command.{Command}
-use Rattle.commands.specs.declared.grammar.Command.TheVariants.{Step, Give, Poke, Show}
+use Rattle.commands.specs.declared.grammar.Command.TheVariants.{Give, Poke, Show}
 use Rattle.commands.proofs.Bools.{and₂}
 use Rattle.commands.proofs.Digits.{digit_bounds}
 use Rattle.commands.proofs.Placed.{one_digit}

@@ -1,11 +1,10 @@
 -- What a command does to the machine that the lines run on, and what it answers.
-use Rattle.std.specs.Prelude.{ℕ, Bool, ◌&&◌, Option, Some, None, is_some, unwrap_or, List, ◌++◌, length, take, drop, leb, eqb, if◌then◌else◌}
+use Rattle.std.specs.Prelude.{ℕ, Bool, ◌&&◌, Option, Some, None, is_some, unwrap_or, Err, is_ok, List, ◌++◌, length, take, drop, leb, if◌then◌else◌}
 use Rattle.std.specs.Option.{option_map_or}
-use Rattle.rules.specs.Answers.{number_of}
-use Rattle.rules.specs.Calls.{Outcome, PokeOutcome, all_idle, start_of, give_of, step_of, poke_of, show_of}
+use Rattle.rules.specs.Calls.{Outcome, PokeOutcome, start_of, give_of, step_of, poke_of, show_of}
 use Rattle.rules.specs.declared.answers.Operation.{Operation}
-use Rattle.rules.specs.declared.answers.Answer.TheVariants.{Refused}
-use Rattle.rules.specs.declared.answers.Handed.TheVariants.{Nothing}
+use Rattle.rules.specs.declared.refusals.Refusal.{Refusal}
+use Rattle.rules.specs.declared.refusals.Refusal.TheVariants.{LentLengths, NotUnderstood, NoMachine}
 use Rattle.rules.specs.declared.entry.GuestAddress.{GuestAddress}
 use Rattle.rules.specs.declared.state.Machine.{Machine}
 use Rattle.rules.specs.declared.state.Called.{Called}
@@ -36,8 +35,8 @@ running m = record { machine = Some m }
 abbrev pub stands : Session → Bool
 stands session = is_some session.machine
 
-abbrev pub refused_ran : ℕ → Session → Ran
-refused_ran number session = record { answer = Refused number; made = Nothing; session = session }
+abbrev pub refused_ran : Refusal → Session → Ran
+refused_ran refusal session = record { answer = Err refusal; made = None; session = session }
 
 -- a call's result: the machine that it hands back is the session's
 abbrev pub ran_of : Called → Ran
@@ -46,7 +45,7 @@ ran_of called = record { answer = called.answer; made = called.made; session = r
 -- "if accepted, starts afresh; if refused, the old machine stays"
 abbrev pub started_ran : Session → Called → Ran
 started_ran session called =
-    if eqb (number_of called.answer) 0 then ran_of called else record { answer = called.answer; made = called.made; session = session }
+    if is_ok called.answer then ran_of called else record { answer = called.answer; made = called.made; session = session }
 
 -- a machine uses the first bytes of what is lent, as many as its sizes say; the rest stays
 abbrev pub beside : ℕ → List ℕ → List ℕ → List ℕ
@@ -67,11 +66,11 @@ unfoldable pub new_of : Session → List ℕ → List ℕ → List ℕ → ℕ �
 new_of session memory owners holders cores bytes entries =
     if new_fits bytes entries (length memory) (length owners) (length holders)
     then after_start session bytes entries memory owners holders (start_of cores (take bytes memory) (take entries owners) (take entries holders))
-    else after (refused_ran 4 session) memory owners holders
+    else after (refused_ran LentLengths session) memory owners holders
 
 -- "script 9, 10", 10: "script line before any accepted `new`"
 abbrev pub once_begun : Session → List ℕ → List ℕ → List ℕ → (Machine → After) → After
-once_begun session memory owners holders done = option_map_or done session.machine (after (refused_ran 10 session) memory owners holders)
+once_begun session memory owners holders done = option_map_or done session.machine (after (refused_ran NoMachine session) memory owners holders)
 
 abbrev pub give_line : Machine → ℕ → Operation → Ran
 give_line m core operation = ran_of (give_of m core operation)
@@ -99,7 +98,7 @@ usual_entries = 64
 
 -- what a command does; a line that is no command is answered 9
 unfoldable pub run_command : Session → List ℕ → List ℕ → List ℕ → Option Command → After
-run_command session memory owners holders None = after (refused_ran 9 session) memory owners holders
+run_command session memory owners holders None = after (refused_ran NotUnderstood session) memory owners holders
 run_command session memory owners holders (Some (New cores bytes entries)) =
     new_of session memory owners holders cores bytes (unwrap_or entries usual_entries)
 run_command session memory owners holders (Some (Give core operation)) =

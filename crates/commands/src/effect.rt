@@ -4,7 +4,7 @@ ghost use Rattle.commands.specs.Effect.{after, no_machine, refused_ran, ran_of, 
 ghost use Rattle.commands.specs.Turns.{set_up};
 
 use crate::grammar::Command;
-use machine::{Answer, Called, Handed, Machine};
+use machine::{Answer, Called, Machine, Record, Refusal};
 
 // The machine that the lines run on: none before the first accepted `new`.
 #[derive(Clone, Copy)]
@@ -15,8 +15,8 @@ pub struct Session {
 // What a line answers, the record that it makes, if it makes one, and what it leaves.
 #[derive(Clone, Copy)]
 pub struct Ran {
-    pub answer: Answer,
-    pub made: Handed,
+    pub answer: Result<Answer, Refusal>,
+    pub made: Option<Record>,
     pub session: Session,
 }
 
@@ -24,12 +24,12 @@ pub struct Ran {
 const USUAL_ENTRIES: u32 = 64;
 
 impl Ran {
-    fn refused(number: u32, session: Session) -> Ran
-        ensures { result ≡ refused_ran number session }
+    fn refused(refusal: Refusal, session: Session) -> Ran
+        ensures { result ≡ refused_ran refusal session }
     {
         Ran {
-            answer: Answer::Refused(number),
-            made: Handed::Nothing,
+            answer: Err(refusal),
+            made: None,
             session,
         }
     }
@@ -51,14 +51,13 @@ impl Ran {
     fn started(session: Session, called: Called) -> Ran
         ensures { result ≡ started_ran session called }
     {
-        let answer = called.answer;
-        if answer.number() == 0 {
-            return Ran::of(called);
-        }
-        Ran {
-            answer,
-            made: called.made,
-            session,
+        match called.answer {
+            Ok(_) => Ran::of(called),
+            Err(_) => Ran {
+                answer: called.answer,
+                made: called.made,
+                session,
+            },
         }
     }
 }
@@ -86,7 +85,7 @@ fn begin(
     let e = entries as usize;
     let tables = (e <= owners.len()) & (e <= holders.len());
     if !((b <= 16384) & (b <= memory.len()) & tables) {
-        return Ran::refused(4, session);
+        return Ran::refused(Refusal::LentLengths, session);
     }
     let called = machine::start(
         cores as usize,
@@ -110,7 +109,7 @@ pub fn set_up(
     ensures { after result memory.new owners.new holders.new ≡ set_up session memory.old owners.old holders.old command }
 {
     match command {
-        None => Ran::refused(9, session),
+        None => Ran::refused(Refusal::NotUnderstood, session),
         Some(
             Command::New {
                 cores,
@@ -127,6 +126,6 @@ pub fn set_up(
             entries.unwrap_or(USUAL_ENTRIES),
         ),
         Some(Command::Give(_, _) | Command::Step(_) | Command::Poke(_, _) | Command::Show(_)) =>
-            Ran::refused(10, session),
+            Ran::refused(Refusal::NoMachine, session),
     }
 }

@@ -1,4 +1,4 @@
-use Rattle.std.proofs.Common.{arith, ℕ, ◌≤◌}
+use Rattle.std.proofs.Common.{arith}
 use Rattle.commands.proofs.Written.{writing_on, writing_ends, one_ends, several_left, one_left}
 use Rattle.commands.proofs.decimal.put_decimal.Goals as goal
 
