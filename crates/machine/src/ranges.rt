@@ -9,34 +9,32 @@ use rules::{Core, Machine};
 pub(crate) fn cores_fit(count: usize) -> bool
     ensures { result ≡ cores_fit count }
 {
-    (1 <= count) & (count <= 8)
+    1 <= count && count <= 8
 }
 
 pub(crate) fn bytes_fit(bytes: usize) -> bool
     ensures { result ≡ bytes_fit bytes }
 {
-    (4 <= bytes) & (bytes <= 65536) & (bytes % 4 == 0)
+    4 <= bytes && bytes <= 65536 && bytes % 4 == 0
 }
 
-// A power of two has no bit in common with the number below it.
-#[tactic(auto, using(rules::proofs::Powers::entries_fit_lem))]
+#[tactic(auto, using(crate::proofs::Entries::few_entries, crate::proofs::Entries::many_entries))]
 pub(crate) fn entries_fit(e: usize) -> bool
     ensures { result ≡ entries_fit e }
 {
-    let below = std::num::wrapping_sub_usize(e, 1);
-    (below < 4096) & (e & below == 0)
+    e <= 4096 && e.is_power_of_two()
 }
 
 pub(crate) fn tables_fit(owners: usize, holders: usize) -> bool
     ensures { result ≡ tables_fit owners holders }
 {
-    entries_fit(owners) & (holders == owners)
+    entries_fit(owners) && holders == owners
 }
 
 fn sizes_fit(m: &Machine) -> bool
     ensures { result ≡ sizes_fit m.now }
 {
-    cores_fit(m.count) & bytes_fit(m.bytes) & entries_fit(m.entries)
+    cores_fit(m.count) && bytes_fit(m.bytes) && entries_fit(m.entries)
 }
 
 // The stages that a core can be at, a bit for each: eight times its operation's number, and its next step.
