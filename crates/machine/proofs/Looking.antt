@@ -1,8 +1,10 @@
 -- What the code looks at in each core, in one pass, is what the ranges ask.
 -- Assumes nothing.
-use Rattle.std.proofs.Common.{◌≡◌, ℕ, ◌/◌, ◌%◌, ◌<◌, ◌≤◌, Bool, true, false, not, ◌&&◌, ◌||◌, eqb, ltb, leb, sym, refl, ◌∙◌, arith, ltb-false, ltb-true, le-ltb, lt-ltb, ne_eqb, eqb-true, le-leb, leb-false, leb-true, if◌then◌else◌}
+use Rattle.std.proofs.Common.{◌≡◌, ℕ, ◌*◌, ◌/◌, ◌%◌, ◌^◌, ◌<◌, ◌≤◌, Bool, true, false, not, ◌&&◌, ◌||◌, eqb, ltb, leb, sym, refl, ◌∙◌, arith, ltb-false, ltb-true, le-ltb, lt-ltb, ne_eqb, eqb-true, le-leb, leb-false, leb-true, if◌then◌else◌}
 use mathlib.Core.Bool.{false≢true, and-true}
 use borrow.Author.Tests.{eqb-false, lt-leb}
+use Rattle.std.specs.Int.{w32, rotate_right}
+use Rattle.std.proofs.lemmas.Nat.{or_comm, or_shifted}
 use Rattle.rules.specs.Basics.{all_below}
 use Rattle.rules.specs.Kinds.{is_ll, is_store, is_sc}
 use Rattle.rules.specs.Ranges.{sizes_fit, uses_value, uses_read, uses_passed, in_use_or0, link_fields, operation_occurs, step_occurs, operation_fits, inside, place_fits, core_fits, core_at, in_ranges}
@@ -106,6 +108,12 @@ word_nowhere a = go (eqb a 0) refl
     go : (t : Bool) → eqb a 0 ≡ t → ltb (word_at a) 1 ≡ t
     go true p = let m = eqb-true a 0 p in lt-ltb (word_at a) 1 (omega arith)
     go false p = let m = eqb-false a 0 p in le-ltb (word_at a) 1 (omega arith)
+
+-- an address rotated by two bits is its word's number, with its two lowest bits above it
+pub rotated : (n : ℕ) → n < 2 ^ 32 → rotate_right w32 n 2 ≡ word_at n
+rotated n l =
+    let high : n * 1073741824 % 4294967296 ≡ n % 4 * 2 ^ 30 = omega arith in
+    or_comm (n / 4) (n * 1073741824 % 4294967296) ∙ rw high (or_shifted (n % 4) 30 (n / 4) (omega arith) ∙ omega arith)
 
 none_below_0 : (n : ℕ) → ltb n 0 ≡ false
 none_below_0 n = le-ltb n 0 (omega arith)

@@ -69,14 +69,15 @@ fn spare_are_0(c: Core, stage: u64) -> bool
 {
     let value = choose(25 <= stage, 0, c.value);
     let read = choose(stage == 20, 0, c.read);
-    (value == 0) & (read == 0)
+    value == 0 && read == 0
 }
 
 // The address with its two lowest bits moved to the top: one comparison then tells that it is aligned and inside.
+#[tactic(auto, using(crate::proofs::Looking::rotated))]
 fn word_at(address: u32) -> u32
     ensures { result ≡ word_at address }
 {
-    address / 4 + address % 4 * 1073741824
+    address.rotate_right(2)
 }
 
 // The words of a memory. One that is too large is refused before this counts.
@@ -164,7 +165,7 @@ pub(crate) fn damaged(count: usize, me: u8, c: Core, owner: u8, holder: u8) -> b
     let mark = me + 1;
     let owner_beyond = count < (owner as usize);
     let holder_beyond = count < (holder as usize);
-    let lost = (2 <= c.next) & !(holder == mark);
-    let early = (c.next == 1) & (holder == mark);
-    !(c.operation == 1) & (owner_beyond | holder_beyond | lost | early)
+    let lost = 2 <= c.next && holder != mark;
+    let early = c.next == 1 && holder == mark;
+    c.operation != 1 && (owner_beyond || holder_beyond || lost || early)
 }
