@@ -69,7 +69,7 @@ fn spare_are_0(c: Core, stage: u64) -> bool
 {
     let value = choose(25 <= stage, 0, c.value);
     let read = choose(stage == 20, 0, c.read);
-    value == 0 && read == 0
+    (value == 0) & (read == 0)
 }
 
 // The address with its two lowest bits moved to the top: one comparison then tells that it is aligned and inside.
