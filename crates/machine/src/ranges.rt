@@ -1,8 +1,8 @@
 // The ranges of sizes and of the state, and the damage of a table's entry.
-ghost use Rattle.std.specs.Prelude.{◌≡◌, ◌%◌, ◌<◌, ◌&&◌, if◌then◌else◌};
+ghost use Rattle.std.specs.Prelude.{◌≡◌, ◌%◌, ◌<◌, ◌≤◌, ◌&&◌, if◌then◌else◌};
 ghost use Rattle.rules.specs.Sizes.{cores_fit, bytes_fit, entries_fit, tables_fit};
 ghost use Rattle.rules.specs.Ranges.{sizes_fit, in_ranges, damaged};
-ghost use Rattle.machine.specs.Looked.{can_be_at, spare_are0, word_at, words_of, words_for, room_of, core_looks_right, fits_at};
+ghost use Rattle.machine.specs.Looked.{can_be_at, spare_are0, word_at, words_for, room_of, core_looks_right, fits_at};
 
 use rules::{Core, Machine};
 
@@ -80,22 +80,12 @@ fn word_at(address: u32) -> u32
     address.rotate_right(2)
 }
 
-// The words of a memory. One that is too large is refused before this counts.
-fn words_of(bytes: usize) -> u32
-    ensures { result ≡ words_of bytes }
-{
-    if bytes <= 65536 {
-        (bytes / 4) as u32
-    } else {
-        0
-    }
-}
-
-// A core at or above the count has no word to be at, and so cannot be busy or linked.
+// The words that an address in use can be at. A core at or above the count has none, and so cannot be busy or linked.
 fn words_for(count: usize, bytes: usize, at: usize) -> u32
+    requires { bytes ≤ 65536 }
     ensures { result ≡ words_for count bytes at }
 {
-    if at < count { words_of(bytes) } else { 0 }
+    if at < count { (bytes / 4) as u32 } else { 0 }
 }
 
 // The words that an address can be at: one that is not in use is 0.
@@ -133,7 +123,8 @@ fn core_looks_right(words: u32, c: Core) -> bool
 
 #[tactic(auto, unfolding(crate::specs::Looked::fits_at))]
 fn fits_at(m: &Machine, i: usize) -> bool
-    requires { i < 8 }
+    requires one_of_eight { i < 8 }
+    requires few_bytes { m.now.bytes ≤ 65536 }
     ensures { result ≡ fits_at m.now i }
 {
     core_looks_right(words_for(m.count, m.bytes, i), m.cores[i])
@@ -142,7 +133,7 @@ fn fits_at(m: &Machine, i: usize) -> bool
 // Whether the state is in its ranges, looked at where it stands, core by core. It returns at the first test
 // that fails: with one test of all cores the compiler would gather fields of several cores, which costs
 // more than the tests.
-#[tactic(auto, using(crate::proofs::Looking::no_sizes, crate::proofs::Looking::a_core_out, crate::proofs::Looking::all_looked))]
+#[tactic(auto, using(crate::proofs::Looking::no_sizes, crate::proofs::Looking::few_bytes, crate::proofs::Looking::a_core_out, crate::proofs::Looking::all_looked))]
 pub(crate) fn in_ranges(m: &Machine) -> bool
     ensures { result ≡ in_ranges m.now }
 {
