@@ -57,9 +57,13 @@ fn can_be_at(c: Core, stage: u64) -> bool
     requires { stage < 64 }
     ensures { result ≡ can_be_at c.busy c.passed stage }
 {
-    let busy = choose(c.passed, PASSED, BUSY);
-    let at_rest = choose(c.passed, 0, IDLE);
-    (choose(c.busy, busy, at_rest) >> stage) % 2 == 1
+    let stages = match (c.busy, c.passed) {
+        (true, true) => PASSED,
+        (true, false) => BUSY,
+        (false, true) => 0,
+        (false, false) => IDLE,
+    };
+    (stages >> stage) % 2 == 1
 }
 
 // A field that is not in use must be 0.
@@ -99,26 +103,13 @@ fn room_of(used: bool, words: u32) -> u32
 fn core_looks_right(words: u32, c: Core) -> bool
     ensures { result ≡ core_looks_right words c }
 {
-    let stage = 8 * (c.operation as u64) + (c.next as u64);
-    if 7 < c.next {
-        return false;
-    }
-    if 63 < stage {
-        return false;
-    }
-    if !can_be_at(c, stage) {
-        return false;
-    }
-    if !spare_are_0(c, stage) {
-        return false;
-    }
-    if room_of(c.busy, words) <= word_at(c.address.0) {
-        return false;
-    }
-    if room_of(c.linked, words) <= word_at(c.link.0) {
-        return false;
-    }
-    true
+    let stage = 8 * u64::from(c.operation) + u64::from(c.next);
+    c.next <= 7
+        && stage <= 63
+        && can_be_at(c, stage)
+        && spare_are_0(c, stage)
+        && word_at(c.address.0) < room_of(c.busy, words)
+        && word_at(c.link.0) < room_of(c.linked, words)
 }
 
 #[tactic(auto, unfolding(crate::specs::Looked::fits_at))]
@@ -154,8 +145,8 @@ pub(crate) fn damaged(count: usize, me: u8, c: Core, owner: u8, holder: u8) -> b
     ensures { result ≡ damaged count me c owner holder }
 {
     let mark = me + 1;
-    let owner_beyond = count < (owner as usize);
-    let holder_beyond = count < (holder as usize);
+    let owner_beyond = count < usize::from(owner);
+    let holder_beyond = count < usize::from(holder);
     let lost = 2 <= c.next && holder != mark;
     let early = c.next == 1 && holder == mark;
     c.operation != 1 && (owner_beyond || holder_beyond || lost || early)
