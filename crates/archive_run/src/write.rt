@@ -91,6 +91,7 @@ pub(crate) fn run(rt: &HostRuntime, archive: &mut Blocks) -> io::Result<()> {
     ended(rt, last, archive)
 }
 
+// A writer with a byte of its first place, a count of records and a count of blocks as it pleases.
 fn invent(first: u8, count: u32, blocks: u32) -> Writer {
     let mut pending = [0; 512];
     pending[12] = first;
@@ -102,21 +103,22 @@ fn invent(first: u8, count: u32, blocks: u32) -> Writer {
     }
 }
 
-fn attempt(rt: &HostRuntime, w: Writer) -> io::Result<()> {
-    let mut lent = [0; 512];
-    add(rt, w, &mut lent, made(0, 1, 0, 0))?;
-    close(rt, w, &mut lent)?;
-    Ok(())
-}
-
 // Writers that no run has: too many records, a wrong record, an unused place, and full or over-full.
 pub(crate) fn invented(rt: &HostRuntime) -> io::Result<()> {
-    attempt(rt, invent(0, 31, 0))?;
-    attempt(rt, invent(0, 1, 0))?;
-    attempt(rt, invent(1, 0, 0))?;
-    attempt(rt, invent(0, 0, 1048575))?;
-    attempt(rt, invent(0, 0, 1048576))?;
-    attempt(rt, invent(0, 1, 1048576))?;
-    attempt(rt, invent(0, 0, 1048577))?;
-    attempt(rt, invent(0, 0, u32::MAX))
+    for (first, count, blocks) in [
+        (0, 31, 0),
+        (0, 1, 0),
+        (1, 0, 0),
+        (0, 0, 1048575),
+        (0, 0, 1048576),
+        (0, 1, 1048576),
+        (0, 0, 1048577),
+        (0, 0, u32::MAX),
+    ] {
+        let w = invent(first, count, blocks);
+        let mut lent = [0; 512];
+        add(rt, w, &mut lent, made(0, 1, 0, 0))?;
+        close(rt, w, &mut lent)?;
+    }
+    Ok(())
 }
