@@ -1,11 +1,10 @@
 -- What the calls on the machine where it stands answer and leave: what the machine's own calls do, packed.
-use Rattle.std.specs.Prelude.{ℕ, List}
+use Rattle.std.specs.Prelude.{ℕ, List, Option, Some, None}
 use Rattle.rules.specs.Calls.{Outcome, PokeOutcome, start_of, give_of, step_of, poke_of, show_of}
+use Rattle.rules.specs.declared.answers.Operation.{Operation}
 use Rattle.rules.specs.declared.state.Machine.{Machine}
 use Rattle.rules.specs.declared.state.Called.{Called}
 use Rattle.bench.specs.Packed.{packed, handed_bytes, asked_of}
-use Rattle.bench.specs.declared.packed.Asked.{Asked}
-use Rattle.bench.specs.declared.packed.Asked.TheVariants.{Known, Unknown}
 
 -- what a call leaves: the answer, the machine, and what is lent to be written
 pub record Left : Type 0 where
@@ -58,9 +57,9 @@ poke_left_by o = record { all = left_by o.called; memory = o.memory; made = hand
 abbrev pub start_call : ℕ → List ℕ → List ℕ → List ℕ → StartLeft
 start_call count memory owners holders = start_left_by (start_of count memory owners holders)
 
-abbrev pub give_asked : Machine → ℕ → Asked → Left
-give_asked m core Unknown = left 9 m
-give_asked m core (Known o) = left_by (give_of m core o)
+abbrev pub give_asked : Machine → ℕ → Option Operation → Left
+give_asked m core None = left 9 m
+give_asked m core (Some o) = left_by (give_of m core o)
 
 abbrev pub give_call : Machine → ℕ → ℕ → ℕ → ℕ → Left
 give_call m core code a value = give_asked m core (asked_of code a value)

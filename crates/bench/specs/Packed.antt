@@ -1,9 +1,10 @@
 -- What crosses to C: an answer as one number, a record as its 16 bytes, an operation as its number.
-use Rattle.std.specs.Prelude.{ℕ, ◌+◌, ◌*◌, ◌%◌, Bool, true, false, List, replicate, eqb, if◌then◌else◌}
+use Rattle.std.specs.Prelude.{ℕ, ◌+◌, ◌*◌, ◌%◌, Option, Some, None, List, replicate, ◌==◌, if◌then◌else◌}
 use Rattle.rules.specs.declared.answers.Answer.{Answer}
 use Rattle.rules.specs.declared.answers.Answer.TheVariants as answer
 use Rattle.rules.specs.declared.answers.Handed.{Handed}
 use Rattle.rules.specs.declared.answers.Handed.TheVariants as handed
+use Rattle.rules.specs.declared.answers.Operation.{Operation}
 use Rattle.rules.specs.declared.answers.Operation.TheVariants as operation
 use Rattle.archive.specs.Records.{encode_record}
 use Rattle.archive.specs.declared.answers.Wrote.{Wrote}
@@ -16,9 +17,6 @@ use Rattle.archive.specs.declared.answers.Whole.{Whole}
 use Rattle.archive.specs.declared.answers.Whole.TheVariants as whole
 use Rattle.archive.specs.declared.answers.Sought.{Sought}
 use Rattle.archive.specs.declared.answers.Sought.TheVariants as sought
-use Rattle.bench.specs.declared.packed.Asked.{Asked}
-use Rattle.bench.specs.declared.packed.Asked.TheVariants as asked
-use Rattle.bench.specs.declared.packed.Asking.{Asking}
 
 -- bits 0..7 the number, 8..15 which answer it is, 32..63 the value: of an answer that is no refusal, whose number is 0
 abbrev pub done : ℕ → ℕ → ℕ
@@ -86,19 +84,10 @@ sought_bytes sought.Nothing = no_record
 sought_bytes (sought.One number r) = encode_record number r
 
 -- the operation that a number asks for: 1 load, 2 ll, 3 store, 4 sc
-unfoldable pub asked_of : ℕ → ℕ → ℕ → Asked
+unfoldable pub asked_of : ℕ → ℕ → ℕ → Option Operation
 asked_of code a value =
-    if eqb code 1 then asked.Known (operation.Load (record { 0 = a }))
-    else if eqb code 2 then asked.Known (operation.Ll (record { 0 = a }))
-    else if eqb code 3 then asked.Known (operation.Store (record { 0 = a }) value)
-    else if eqb code 4 then asked.Known (operation.Sc (record { 0 = a }) value)
-    else asked.Unknown
-
--- what the machine is given for it: no machine has the address 1, so that for an unknown number the give is refused
-abbrev pub asking_for : Asked → Asking
-asking_for asked.Unknown = record { known = false; operation = operation.Load (record { 0 = 1 }) }
-asking_for (asked.Known o) = record { known = true; operation = o }
-
--- .. and what is said of its answer: 9 where the number is unknown
-abbrev pub packed_if : Bool → Answer → ℕ
-packed_if known a = if known then packed a else 9
+    if code == 1 then Some (operation.Load (record { 0 = a }))
+    else if code == 2 then Some (operation.Ll (record { 0 = a }))
+    else if code == 3 then Some (operation.Store (record { 0 = a }) value)
+    else if code == 4 then Some (operation.Sc (record { 0 = a }) value)
+    else None

@@ -3,9 +3,9 @@ ghost use Rattle.std.specs.Prelude.{◌≡◌};
 ghost use Rattle.bench.specs.Machines.{left, start_left, step_left, poke_left, start_call, give_call, step_call, poke_call, show_call};
 ghost use Rattle.bench.specs.Archives.{new_left, write_left, read_left, new_call, add_call, close_call, check_call, record_call, whole_call, sought_call};
 
-use crate::{archives, machines, packed};
-use archive::Writer;
-use machine::Machine;
+use crate::packed;
+use archive::{Writer, Wrote, decode_record};
+use machine::{GuestAddress, Machine};
 
 pub fn malthobre_start(
     m: &mut Machine,
@@ -16,17 +16,18 @@ pub fn malthobre_start(
 ) -> u64
     ensures { start_left result m.new memory.new owners.new holders.new ≡ start_call count memory.old owners.old holders.old }
 {
-    let s = machines::start(count, memory, owners, holders);
-    *m = s.machine;
-    s.answer
+    let called = machine::start(count, memory, owners, holders);
+    *m = called.machine;
+    packed::answer(called.answer)
 }
 
 pub fn malthobre_give(m: &mut Machine, core: usize, operation: u8, address: u32, value: u32) -> u64
     ensures { left result m.new ≡ give_call m.old core operation address value }
 {
-    let asking = packed::asking_for(operation, address, value);
-    let answer = machine::give_in_place(m, core, asking.operation);
-    packed::given(asking.known, answer)
+    match packed::asked_of(operation, address, value) {
+        Some(asked) => packed::answer(machine::give_in_place(m, core, asked)),
+        None => 9,
+    }
 }
 
 pub fn malthobre_step(
@@ -39,8 +40,9 @@ pub fn malthobre_step(
 ) -> u64
     ensures { step_left result m.new memory.new owners.new holders.new made.new ≡ step_call m.old memory.old owners.old holders.old core }
 {
-    let s = machine::step_in_place(m, memory, owners, holders, core);
-    machines::told(s, made)
+    let stepped = machine::step_in_place(m, memory, owners, holders, core);
+    *made = packed::handed_bytes(stepped.made);
+    packed::answer(stepped.answer)
 }
 
 pub fn malthobre_poke(
@@ -52,41 +54,41 @@ pub fn malthobre_poke(
 ) -> u64
     ensures { poke_left result m.new memory.new made.new ≡ poke_call m.old memory.old address value }
 {
-    let s = machines::poke(*m, memory, address, value, made);
-    *m = s.machine;
-    s.answer
+    let called = machine::poke(*m, memory, GuestAddress(address), value);
+    *m = called.machine;
+    *made = packed::handed_bytes(called.made);
+    packed::answer(called.answer)
 }
 
 pub fn malthobre_show(m: &mut Machine, memory: &[u8], address: u32) -> u64
     ensures { left result m.new ≡ show_call m.old memory.now address }
 {
-    let s = machines::show(*m, memory, address);
-    *m = s.machine;
-    s.answer
+    let called = machine::show(*m, memory, GuestAddress(address));
+    *m = called.machine;
+    packed::answer(called.answer)
 }
 
 pub fn malthobre_writer_new(w: &mut Writer) -> u64
     ensures { new_left result w.new ≡ new_call }
 {
-    let s = archives::new();
-    *w = s.writer;
-    s.answer
+    *w = Writer::new();
+    packed::wrote(Wrote::Nothing)
 }
 
 pub fn malthobre_writer_add(w: &mut Writer, block: &mut [u8], made: &[u8; 16]) -> u64
     ensures { write_left result w.new block.new ≡ add_call w.old block.old made.now }
 {
-    let s = archives::add(*w, block, made);
-    *w = s.writer;
-    s.answer
+    let written = w.add(block, decode_record(*made));
+    *w = written.writer;
+    packed::wrote(written.answer)
 }
 
 pub fn malthobre_writer_close(w: &mut Writer, block: &mut [u8]) -> u64
     ensures { write_left result w.new block.new ≡ close_call w.old block.old }
 {
-    let s = archives::close(*w, block);
-    *w = s.writer;
-    s.answer
+    let written = w.close(block);
+    *w = written.writer;
+    packed::wrote(written.answer)
 }
 
 pub fn malthobre_block_check(block: &[u8], expected: u32, short: bool) -> u64

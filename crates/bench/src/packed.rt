@@ -1,29 +1,9 @@
 // What crosses to C: an answer as one number, a record as its 16 bytes, an operation as its number.
 ghost use Rattle.std.specs.Prelude.{◌≡◌, ◌%◌};
-ghost use Rattle.bench.specs.Packed.{done, refused_at, packed, packed_wrote, packed_checked, packed_read, packed_whole, packed_sought, no_record, handed_bytes, read_bytes, sought_bytes, asked_of, asking_for, packed_if};
+ghost use Rattle.bench.specs.Packed.{done, refused_at, packed, packed_wrote, packed_checked, packed_read, packed_whole, packed_sought, handed_bytes, read_bytes, sought_bytes, asked_of};
 
 use archive::{Checked, Read, Sought, Whole, Wrote, encode_record};
 use machine::{Answer, GuestAddress, Handed, Operation};
-
-// What an operation's number asks for.
-#[derive(Clone, Copy)]
-pub enum Asked {
-    Known(Operation),
-    Unknown,
-}
-
-// .. as what is given to the machine, whether the number is known or not.
-#[derive(Clone, Copy)]
-pub struct Asking {
-    pub known: bool,
-    pub operation: Operation,
-}
-
-fn wide(x: u32) -> u64
-    ensures { result ≡ x }
-{
-    x as u64
-}
 
 // A length or an index, in 32 bits.
 fn low(x: usize) -> u32
@@ -35,20 +15,20 @@ fn low(x: usize) -> u32
 fn done(word: u8, value: u32) -> u64
     ensures { result ≡ done word value }
 {
-    256 * (word as u64) + 4294967296 * wide(value)
+    256 * u64::from(word) + 4294967296 * u64::from(value)
 }
 
 fn refused_at(number: u32, index: usize) -> u64
     ensures { result ≡ refused_at number index }
 {
-    wide(number) + 4294967296 * wide(low(index))
+    u64::from(number) + 4294967296 * u64::from(low(index))
 }
 
 pub(crate) fn answer(a: Answer) -> u64
     ensures { result ≡ packed a }
 {
     match a {
-        Answer::Refused(n) => wide(n),
+        Answer::Refused(n) => u64::from(n),
         Answer::Ready => done(1, 0),
         Answer::Taken => done(2, 0),
         Answer::Moved => done(3, 0),
@@ -66,7 +46,7 @@ pub(crate) fn wrote(a: Wrote) -> u64
     ensures { result ≡ packed_wrote a }
 {
     match a {
-        Wrote::Refused(n) => wide(n),
+        Wrote::Refused(n) => u64::from(n),
         Wrote::Nothing => done(11, 0),
         Wrote::Block => done(12, 0),
     }
@@ -76,7 +56,7 @@ pub(crate) fn checked(a: Checked) -> u64
     ensures { result ≡ packed_checked a }
 {
     match a {
-        Checked::Refused(n) => wide(n),
+        Checked::Refused(n) => u64::from(n),
         Checked::Good => done(13, 0),
     }
 }
@@ -85,7 +65,7 @@ pub(crate) fn read(a: Read) -> u64
     ensures { result ≡ packed_read a }
 {
     match a {
-        Read::Refused(n) => wide(n),
+        Read::Refused(n) => u64::from(n),
         Read::Nothing => done(14, 0),
         Read::One(_, _) => done(15, 0),
     }
@@ -95,7 +75,7 @@ pub(crate) fn whole(a: Whole) -> u64
     ensures { result ≡ packed_whole a }
 {
     match a {
-        Whole::Refused(n) => wide(n),
+        Whole::Refused(n) => u64::from(n),
         Whole::RefusedAt(n, block) => refused_at(n, block),
         Whole::Holds(records) => done(16, low(records)),
     }
@@ -105,24 +85,18 @@ pub(crate) fn sought(a: Sought) -> u64
     ensures { result ≡ packed_sought a }
 {
     match a {
-        Sought::Refused(n) => wide(n),
+        Sought::Refused(n) => u64::from(n),
         Sought::RefusedAt(n, block) => refused_at(n, block),
         Sought::Nothing => done(14, 0),
         Sought::One(_, _) => done(15, 0),
     }
 }
 
-fn no_record() -> [u8; 16]
-    ensures { result ≡ no_record }
-{
-    [0; 16]
-}
-
 pub(crate) fn handed_bytes(made: Handed) -> [u8; 16]
     ensures { result ≡ handed_bytes made }
 {
     match made {
-        Handed::Nothing => no_record(),
+        Handed::Nothing => [0; 16],
         Handed::One(r) => encode_record(0, r),
     }
 }
@@ -131,8 +105,8 @@ pub(crate) fn read_bytes(a: Read) -> [u8; 16]
     ensures { result ≡ read_bytes a }
 {
     match a {
-        Read::Refused(_) => no_record(),
-        Read::Nothing => no_record(),
+        Read::Refused(_) => [0; 16],
+        Read::Nothing => [0; 16],
         Read::One(number, r) => encode_record(number, r),
     }
 }
@@ -141,54 +115,24 @@ pub(crate) fn sought_bytes(a: Sought) -> [u8; 16]
     ensures { result ≡ sought_bytes a }
 {
     match a {
-        Sought::Refused(_) => no_record(),
-        Sought::RefusedAt(_, _) => no_record(),
-        Sought::Nothing => no_record(),
+        Sought::Refused(_) => [0; 16],
+        Sought::RefusedAt(_, _) => [0; 16],
+        Sought::Nothing => [0; 16],
         Sought::One(number, r) => encode_record(number, r),
     }
 }
 
+// The operation that a number asks for.
 #[tactic(auto, unfolding(crate::specs::Packed::asked_of))]
-fn asked_for(code: u8, a: u32, value: u32) -> Asked
+pub(crate) fn asked_of(code: u8, a: u32, value: u32) -> Option<Operation>
     ensures { result ≡ asked_of code a value }
 {
     let address = GuestAddress(a);
-    if code == 1 {
-        return Asked::Known(Operation::Load(address));
+    match code {
+        1 => Some(Operation::Load(address)),
+        2 => Some(Operation::Ll(address)),
+        3 => Some(Operation::Store(address, value)),
+        4 => Some(Operation::Sc(address, value)),
+        _ => None,
     }
-    if code == 2 {
-        return Asked::Known(Operation::Ll(address));
-    }
-    if code == 3 {
-        return Asked::Known(Operation::Store(address, value));
-    }
-    if code == 4 {
-        return Asked::Known(Operation::Sc(address, value));
-    }
-    Asked::Unknown
-}
-
-pub(crate) fn asking_for(code: u8, a: u32, value: u32) -> Asking
-    ensures { result ≡ asking_for (asked_of code a value) }
-{
-    match asked_for(code, a, value) {
-        // 1 is no multiple of 4: no machine has it, so the give is refused and changes nothing.
-        Asked::Unknown => Asking {
-            known: false,
-            operation: Operation::Load(GuestAddress(1)),
-        },
-        Asked::Known(operation) => Asking {
-            known: true,
-            operation,
-        },
-    }
-}
-
-pub(crate) fn given(known: bool, a: Answer) -> u64
-    ensures { result ≡ packed_if known a }
-{
-    if known {
-        return answer(a);
-    }
-    9
 }
