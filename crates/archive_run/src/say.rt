@@ -1,50 +1,68 @@
-// The lines that are printed: a call's word, and what it answered.
-use archive::{Checked, Read, Sought, Whole, Wrote};
-use machine::Record;
+// The lines that are printed: a call's word, its answer's number, and then what it hands out or which block refuses.
+use archive::{ArchiveRefusal, Numbered};
+use machine::Refusal;
 use std::io;
 
-pub(crate) fn end(rt: &HostRuntime) -> io::Result<()> {
+pub(crate) fn line(rt: &HostRuntime, call: &str, answer: impl Told) -> io::Result<()> {
+    print!(rt; "{call}")?;
+    answer.told(rt)?;
     println!(rt;)
 }
 
-pub(crate) fn wrote(rt: &HostRuntime, answer: Wrote) -> io::Result<()> {
-    match answer {
-        Wrote::Refused(n) => print!(rt; " {n} refused"),
-        Wrote::Nothing => print!(rt; " 0 nothing"),
-        Wrote::Block => print!(rt; " 0 block"),
+pub(crate) trait Told: Drop {
+    fn told(self, rt: &HostRuntime) -> io::Result<()>;
+}
+
+impl<T: Told, E: Told> Told for Result<T, E> {
+    fn told(self, rt: &HostRuntime) -> io::Result<()> {
+        match self {
+            Ok(answer) => answer.told(rt),
+            Err(refusal) => refusal.told(rt),
+        }
     }
 }
 
-pub(crate) fn checked(rt: &HostRuntime, answer: Checked) -> io::Result<()> {
-    let n = answer.number();
-    print!(rt; " {n}")
-}
-
-fn record(rt: &HostRuntime, n: u32, r: Record) -> io::Result<()> {
-    print!(rt; " 0 {n} {} {} {} {}", r.core, r.kind, r.address.0, r.value)
-}
-
-pub(crate) fn read(rt: &HostRuntime, answer: Read) -> io::Result<()> {
-    match answer {
-        Read::Refused(n) => print!(rt; " {n}"),
-        Read::Nothing => print!(rt; " 0 nothing"),
-        Read::One(n, r) => record(rt, n, r),
+// A good block.
+impl Told for () {
+    fn told(self, rt: &HostRuntime) -> io::Result<()> {
+        print!(rt; " 0")
     }
 }
 
-pub(crate) fn whole(rt: &HostRuntime, answer: Whole) -> io::Result<()> {
-    match answer {
-        Whole::Refused(n) => print!(rt; " {n} -"),
-        Whole::RefusedAt(n, block) => print!(rt; " {n} {block}"),
-        Whole::Holds(records) => print!(rt; " 0 {records}"),
+// The record at a place or of a number.
+impl Told for Option<Numbered> {
+    fn told(self, rt: &HostRuntime) -> io::Result<()> {
+        match self {
+            None => print!(rt; " 0 nothing"),
+            Some(Numbered { number, record: r }) => {
+                print!(rt;
+                    " 0 {number} {} {} {} {}",
+                    r.core, r.kind, r.address.0, r.value
+                )
+            }
+        }
     }
 }
 
-pub(crate) fn sought(rt: &HostRuntime, answer: Sought) -> io::Result<()> {
-    match answer {
-        Sought::Refused(n) => print!(rt; " {n} -"),
-        Sought::RefusedAt(n, block) => print!(rt; " {n} {block}"),
-        Sought::Nothing => print!(rt; " 0 nothing"),
-        Sought::One(n, r) => record(rt, n, r),
+// How many records an archive holds.
+impl Told for usize {
+    fn told(self, rt: &HostRuntime) -> io::Result<()> {
+        print!(rt; " 0 {self}")
+    }
+}
+
+impl Told for Refusal {
+    fn told(self, rt: &HostRuntime) -> io::Result<()> {
+        print!(rt; " {}", self.number())
+    }
+}
+
+impl Told for ArchiveRefusal {
+    fn told(self, rt: &HostRuntime) -> io::Result<()> {
+        let number = self.number();
+        match self {
+            ArchiveRefusal::Length => print!(rt; " {number} -"),
+            ArchiveRefusal::Block { index, .. } => print!(rt; " {number} {index}"),
+        }
     }
 }

@@ -1,9 +1,9 @@
 // The records are written, with calls in between that are refused.
 ghost use Rattle.std.specs.Prelude.{◌<◌};
 
-use crate::{Blocks, say};
-use archive::{Writer, Written};
-use machine::{GuestAddress, Record};
+use crate::Blocks;
+use archive::{Put, Writer, Written};
+use machine::{GuestAddress, Record, number_of};
 use std::io;
 
 fn made(core: u8, kind: u8, address: u32, value: u32) -> Record {
@@ -27,9 +27,13 @@ fn sample(i: u32) -> Record
 
 // What a call of the writer answers; the writer that it leaves goes on.
 fn told(rt: &HostRuntime, call: &str, done: Written) -> io::Result<Writer> {
-    print!(rt; "{call}")?;
-    say::wrote(rt, done.answer)?;
-    say::end(rt)?;
+    let number = number_of(&done.answer);
+    let word = match done.answer {
+        Ok(Put::Nothing) => "nothing",
+        Ok(Put::Block) => "block",
+        Err(_) => "refused",
+    };
+    println!(rt; "{call} {number} {word}")?;
     Ok(done.writer)
 }
 
