@@ -4,4 +4,4 @@ use Rattle.std.proofs.Common.{arith}
 use Rattle.bench.specs.Laws.{EachAnswerUnpacks}
 
 pub each_answer_unpacks : EachAnswerUnpacks
-each_answer_unpacks a h = record { number = grind arith; value = grind arith }
+each_answer_unpacks a = record { number = grind arith; value = grind arith }

@@ -1,14 +1,15 @@
 -- What the calls on the writer where it stands, on a block and on a whole archive answer and leave: what the archive's own calls do, packed.
-use Rattle.std.specs.Prelude.{ℕ, Bool, List}
+use Rattle.std.specs.Prelude.{ℕ, Bool, List, Option, Result, Ok}
 use Rattle.archive.specs.Records.{record_in}
 use Rattle.archive.specs.Reader.{checked_of, read_of}
 use Rattle.archive.specs.Whole.{whole_of, sought_of}
 use Rattle.archive.specs.Writer.{WriteOutcome, new_writer, add_of, close_of}
-use Rattle.archive.specs.declared.answers.Read.{Read}
-use Rattle.archive.specs.declared.answers.Sought.{Sought}
-use Rattle.archive.specs.declared.answers.Wrote.TheVariants as wrote
+use Rattle.rules.specs.declared.refusals.Refusal.{Refusal}
+use Rattle.archive.specs.declared.answers.Put.TheVariants as put
+use Rattle.archive.specs.declared.answers.Numbered.{Numbered}
+use Rattle.archive.specs.declared.answers.ArchiveRefusal.{ArchiveRefusal}
 use Rattle.archive.specs.declared.writer.Writer.{Writer}
-use Rattle.bench.specs.Packed.{packed_wrote, packed_checked, packed_read, packed_whole, packed_sought, read_bytes, sought_bytes}
+use Rattle.bench.specs.Packed.{packed_wrote, packed_checked, packed_read, packed_whole, packed_sought, read_bytes}
 
 -- what a call leaves: the answer, and the writer
 pub record NewLeft : Type 0 where
@@ -37,15 +38,15 @@ pub record ReadLeft : Type 0 where
 abbrev pub read_left : ℕ → List ℕ → ReadLeft
 read_left answer made = record { answer = answer; made = made }
 
-abbrev pub read_left_by : Read → ReadLeft
+abbrev pub read_left_by : Result (Option Numbered) Refusal → ReadLeft
 read_left_by r = read_left (packed_read r) (read_bytes r)
 
-abbrev pub sought_left_by : Sought → ReadLeft
-sought_left_by r = read_left (packed_sought r) (sought_bytes r)
+abbrev pub sought_left_by : Result (Option Numbered) ArchiveRefusal → ReadLeft
+sought_left_by r = read_left (packed_sought r) (read_bytes r)
 
 -- the calls
 abbrev pub new_call : NewLeft
-new_call = new_left (packed_wrote wrote.Nothing) new_writer
+new_call = new_left (packed_wrote (Ok put.Nothing)) new_writer
 
 abbrev pub add_call : Writer → List ℕ → List ℕ → WriteLeft
 add_call w block made = write_left_by (add_of w block (record_in made))

@@ -1,7 +1,9 @@
 -- What the calls on the machine where it stands answer and leave: what the machine's own calls do, packed.
 use Rattle.std.specs.Prelude.{ℕ, List, Option, Some, None}
 use Rattle.rules.specs.Calls.{Outcome, PokeOutcome, start_of, give_of, step_of, poke_of, show_of}
+use Rattle.rules.specs.Refusals.{refusal_number}
 use Rattle.rules.specs.declared.answers.Operation.{Operation}
+use Rattle.rules.specs.declared.refusals.Refusal.TheVariants.{NotUnderstood}
 use Rattle.rules.specs.declared.state.Machine.{Machine}
 use Rattle.rules.specs.declared.state.Called.{Called}
 use Rattle.bench.specs.Packed.{packed, handed_bytes, asked_of}
@@ -53,12 +55,12 @@ step_left_by o = record { all = left_by o.called; memory = o.memory; owners = o.
 abbrev pub poke_left_by : PokeOutcome → PokeLeft
 poke_left_by o = record { all = left_by o.called; memory = o.memory; made = handed_bytes o.called.made }
 
--- the calls; 9 where an operation's number is none, as in a script line that is not understood
+-- the calls; an operation's number that is none is refused as a script line that is not understood
 abbrev pub start_call : ℕ → List ℕ → List ℕ → List ℕ → StartLeft
 start_call count memory owners holders = start_left_by (start_of count memory owners holders)
 
 abbrev pub give_asked : Machine → ℕ → Option Operation → Left
-give_asked m core None = left 9 m
+give_asked m core None = left (refusal_number NotUnderstood) m
 give_asked m core (Some o) = left_by (give_of m core o)
 
 abbrev pub give_call : Machine → ℕ → ℕ → ℕ → ℕ → Left

@@ -3,9 +3,9 @@ ghost use Rattle.std.specs.Prelude.{◌≡◌};
 ghost use Rattle.bench.specs.Machines.{left, start_left, step_left, poke_left, start_call, give_call, step_call, poke_call, show_call};
 ghost use Rattle.bench.specs.Archives.{new_left, write_left, read_left, new_call, add_call, close_call, check_call, record_call, whole_call, sought_call};
 
-use crate::packed;
-use archive::{Writer, Wrote, decode_record};
-use machine::{GuestAddress, Machine};
+use crate::packed::{Packed, asked_of, handed_bytes, read_bytes};
+use archive::{Put, Writer, decode_record};
+use machine::{GuestAddress, Machine, Refusal};
 
 pub fn malthobre_start(
     m: &mut Machine,
@@ -18,15 +18,15 @@ pub fn malthobre_start(
 {
     let called = machine::start(count, memory, owners, holders);
     *m = called.machine;
-    packed::answer(called.answer)
+    called.answer.packed()
 }
 
 pub fn malthobre_give(m: &mut Machine, core: usize, operation: u8, address: u32, value: u32) -> u64
     ensures { left result m.new ≡ give_call m.old core operation address value }
 {
-    match packed::asked_of(operation, address, value) {
-        Some(asked) => packed::answer(machine::give_in_place(m, core, asked)),
-        None => 9,
+    match asked_of(operation, address, value) {
+        Some(asked) => machine::give_in_place(m, core, asked).packed(),
+        None => Refusal::NotUnderstood.packed(),
     }
 }
 
@@ -41,8 +41,8 @@ pub fn malthobre_step(
     ensures { step_left result m.new memory.new owners.new holders.new made.new ≡ step_call m.old memory.old owners.old holders.old core }
 {
     let stepped = machine::step_in_place(m, memory, owners, holders, core);
-    *made = packed::handed_bytes(stepped.made);
-    packed::answer(stepped.answer)
+    *made = handed_bytes(stepped.made);
+    stepped.answer.packed()
 }
 
 pub fn malthobre_poke(
@@ -56,8 +56,8 @@ pub fn malthobre_poke(
 {
     let called = machine::poke(*m, memory, GuestAddress(address), value);
     *m = called.machine;
-    *made = packed::handed_bytes(called.made);
-    packed::answer(called.answer)
+    *made = handed_bytes(called.made);
+    called.answer.packed()
 }
 
 pub fn malthobre_show(m: &mut Machine, memory: &[u8], address: u32) -> u64
@@ -65,14 +65,14 @@ pub fn malthobre_show(m: &mut Machine, memory: &[u8], address: u32) -> u64
 {
     let called = machine::show(*m, memory, GuestAddress(address));
     *m = called.machine;
-    packed::answer(called.answer)
+    called.answer.packed()
 }
 
 pub fn malthobre_writer_new(w: &mut Writer) -> u64
     ensures { new_left result w.new ≡ new_call }
 {
     *w = Writer::new();
-    packed::wrote(Wrote::Nothing)
+    Put::Nothing.packed()
 }
 
 pub fn malthobre_writer_add(w: &mut Writer, block: &mut [u8], made: &[u8; 16]) -> u64
@@ -80,7 +80,7 @@ pub fn malthobre_writer_add(w: &mut Writer, block: &mut [u8], made: &[u8; 16]) -
 {
     let written = w.add(block, decode_record(*made));
     *w = written.writer;
-    packed::wrote(written.answer)
+    written.answer.packed()
 }
 
 pub fn malthobre_writer_close(w: &mut Writer, block: &mut [u8]) -> u64
@@ -88,13 +88,13 @@ pub fn malthobre_writer_close(w: &mut Writer, block: &mut [u8]) -> u64
 {
     let written = w.close(block);
     *w = written.writer;
-    packed::wrote(written.answer)
+    written.answer.packed()
 }
 
 pub fn malthobre_block_check(block: &[u8], expected: u32, short: bool) -> u64
     ensures { result ≡ check_call block.now expected short }
 {
-    packed::checked(archive::check_block(block, expected, short))
+    archive::check_block(block, expected, short).packed()
 }
 
 pub fn malthobre_block_record(
@@ -107,20 +107,20 @@ pub fn malthobre_block_record(
     ensures { read_left result made.new ≡ record_call block.now expected short place }
 {
     let found = archive::record_at(block, expected, short, place);
-    *made = packed::read_bytes(found);
-    packed::read(found)
+    *made = read_bytes(&found);
+    found.packed()
 }
 
 pub fn malthobre_archive_check(bytes: &[u8]) -> u64
     ensures { result ≡ whole_call bytes.now }
 {
-    packed::whole(archive::check_archive(bytes))
+    archive::check_archive(bytes).packed()
 }
 
 pub fn malthobre_archive_record(bytes: &[u8], number: u32, made: &mut [u8; 16]) -> u64
     ensures { read_left result made.new ≡ sought_call bytes.now number }
 {
     let found = archive::record_of_number(bytes, number);
-    *made = packed::sought_bytes(found);
-    packed::sought(found)
+    *made = read_bytes(&found);
+    found.packed()
 }

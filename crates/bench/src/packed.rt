@@ -1,9 +1,10 @@
 // What crosses to C: an answer as one number, a record as its 16 bytes, an operation as its number.
-ghost use Rattle.std.specs.Prelude.{◌≡◌, ◌%◌};
-ghost use Rattle.bench.specs.Packed.{done, refused_at, packed, packed_wrote, packed_checked, packed_read, packed_whole, packed_sought, handed_bytes, read_bytes, sought_bytes, asked_of};
+ghost use Rattle.std.specs.Prelude.{◌≡◌, ◌%◌, ℕ};
+ghost use Rattle.rules.specs.Refusals.{refusal_number};
+ghost use Rattle.bench.specs.Packed.{done, refused_at, packed_by, packed_answer, packed_put, packed_good, packed_found, packed_count, packed_refusal, handed_bytes, read_bytes, asked_of};
 
-use archive::{Checked, Read, Sought, Whole, Wrote, encode_record};
-use machine::{Answer, GuestAddress, Handed, Operation};
+use archive::{ArchiveRefusal, Numbered, Put, encode_record};
+use machine::{Answer, GuestAddress, Operation, Record, Refusal};
 
 // A length or an index, in 32 bits.
 fn low(x: usize) -> u32
@@ -12,6 +13,7 @@ fn low(x: usize) -> u32
     (x % 4294967296) as u32
 }
 
+// The words are those of bench/malthobre.h.
 fn done(word: u8, value: u32) -> u64
     ensures { result ≡ done word value }
 {
@@ -24,101 +26,119 @@ fn refused_at(number: u32, index: usize) -> u64
     u64::from(number) + 4294967296 * u64::from(low(index))
 }
 
-pub(crate) fn answer(a: Answer) -> u64
-    ensures { result ≡ packed a }
-{
-    match a {
-        Answer::Refused(n) => u64::from(n),
-        Answer::Ready => done(1, 0),
-        Answer::Taken => done(2, 0),
-        Answer::Moved => done(3, 0),
-        Answer::Waits => done(4, 0),
-        Answer::Load(v) => done(5, v),
-        Answer::Ll(v) => done(6, v),
-        Answer::Store => done(7, 0),
-        Answer::Sc(v) => done(8, v),
-        Answer::Poked => done(9, 0),
-        Answer::Word(v) => done(10, v),
+// What a call answers or refuses with, as one number.
+pub(crate) trait Packed {
+    ghost packs: { Self → ℕ };
+
+    fn packed(self) -> u64
+        ensures { result ≡ packs self };
+}
+
+impl<T: Packed, E: Packed> Packed for Result<T, E> {
+    ghost packs = { packed_by T.packs E.packs };
+
+    fn packed(self) -> u64 {
+        match self {
+            Ok(answer) => answer.packed(),
+            Err(refusal) => refusal.packed(),
+        }
     }
 }
 
-pub(crate) fn wrote(a: Wrote) -> u64
-    ensures { result ≡ packed_wrote a }
-{
-    match a {
-        Wrote::Refused(n) => u64::from(n),
-        Wrote::Nothing => done(11, 0),
-        Wrote::Block => done(12, 0),
+impl Packed for Refusal {
+    ghost packs = { refusal_number };
+
+    fn packed(self) -> u64 {
+        u64::from(self.number())
     }
 }
 
-pub(crate) fn checked(a: Checked) -> u64
-    ensures { result ≡ packed_checked a }
-{
-    match a {
-        Checked::Refused(n) => u64::from(n),
-        Checked::Good => done(13, 0),
+impl Packed for ArchiveRefusal {
+    ghost packs = { packed_refusal };
+
+    fn packed(self) -> u64 {
+        match self {
+            ArchiveRefusal::Length => Refusal::BlockLength.packed(),
+            ArchiveRefusal::Block { index, refusal } => refused_at(refusal.number(), index),
+        }
     }
 }
 
-pub(crate) fn read(a: Read) -> u64
-    ensures { result ≡ packed_read a }
-{
-    match a {
-        Read::Refused(n) => u64::from(n),
-        Read::Nothing => done(14, 0),
-        Read::One(_, _) => done(15, 0),
+impl Packed for Answer {
+    ghost packs = { packed_answer };
+
+    fn packed(self) -> u64 {
+        match self {
+            Answer::Ready => done(1, 0),
+            Answer::Taken => done(2, 0),
+            Answer::Moved => done(3, 0),
+            Answer::Waits => done(4, 0),
+            Answer::Load(v) => done(5, v),
+            Answer::Ll(v) => done(6, v),
+            Answer::Store => done(7, 0),
+            Answer::Sc(v) => done(8, v),
+            Answer::Poked => done(9, 0),
+            Answer::Word(v) => done(10, v),
+        }
     }
 }
 
-pub(crate) fn whole(a: Whole) -> u64
-    ensures { result ≡ packed_whole a }
-{
-    match a {
-        Whole::Refused(n) => u64::from(n),
-        Whole::RefusedAt(n, block) => refused_at(n, block),
-        Whole::Holds(records) => done(16, low(records)),
+impl Packed for Put {
+    ghost packs = { packed_put };
+
+    fn packed(self) -> u64 {
+        match self {
+            Put::Nothing => done(11, 0),
+            Put::Block => done(12, 0),
+        }
     }
 }
 
-pub(crate) fn sought(a: Sought) -> u64
-    ensures { result ≡ packed_sought a }
-{
-    match a {
-        Sought::Refused(n) => u64::from(n),
-        Sought::RefusedAt(n, block) => refused_at(n, block),
-        Sought::Nothing => done(14, 0),
-        Sought::One(_, _) => done(15, 0),
+// A block is good.
+impl Packed for () {
+    ghost packs = { packed_good };
+
+    fn packed(self) -> u64 {
+        done(13, 0)
     }
 }
 
-pub(crate) fn handed_bytes(made: Handed) -> [u8; 16]
+// A record that is found goes out by its bytes.
+impl Packed for Option<Numbered> {
+    ghost packs = { packed_found };
+
+    fn packed(self) -> u64 {
+        match self {
+            None => done(14, 0),
+            Some(_) => done(15, 0),
+        }
+    }
+}
+
+// How many records an archive holds.
+impl Packed for usize {
+    ghost packs = { packed_count };
+
+    fn packed(self) -> u64 {
+        done(16, low(self))
+    }
+}
+
+pub(crate) fn handed_bytes(made: Option<Record>) -> [u8; 16]
     ensures { result ≡ handed_bytes made }
 {
     match made {
-        Handed::Nothing => [0; 16],
-        Handed::One(r) => encode_record(0, r),
+        None => [0; 16],
+        Some(r) => encode_record(0, r),
     }
 }
 
-pub(crate) fn read_bytes(a: Read) -> [u8; 16]
-    ensures { result ≡ read_bytes a }
+pub(crate) fn read_bytes<E>(answer: &Result<Option<Numbered>, E>) -> [u8; 16]
+    ensures { result ≡ read_bytes answer.now }
 {
-    match a {
-        Read::Refused(_) => [0; 16],
-        Read::Nothing => [0; 16],
-        Read::One(number, r) => encode_record(number, r),
-    }
-}
-
-pub(crate) fn sought_bytes(a: Sought) -> [u8; 16]
-    ensures { result ≡ sought_bytes a }
-{
-    match a {
-        Sought::Refused(_) => [0; 16],
-        Sought::RefusedAt(_, _) => [0; 16],
-        Sought::Nothing => [0; 16],
-        Sought::One(number, r) => encode_record(number, r),
+    match answer {
+        Ok(Some(found)) => encode_record(found.number, found.record),
+        Ok(None) | Err(_) => [0; 16],
     }
 }
 
