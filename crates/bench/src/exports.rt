@@ -1,7 +1,8 @@
 // The calls as bench/malthobre.h declares them; the crate `bench_c` exports them to C.
 ghost use Rattle.std.specs.Prelude.{◌≡◌};
-ghost use Rattle.bench.specs.Machines.{left, start_left, step_left, poke_left, start_call, give_call, step_call, poke_call, show_call};
-ghost use Rattle.bench.specs.Archives.{new_left, write_left, read_left, new_call, add_call, close_call, check_call, record_call, whole_call, sought_call};
+ghost use Rattle.bench.specs.Left.{left};
+ghost use Rattle.bench.specs.Machines.{start_left, step_left, poke_left, start_call, give_call, step_call, poke_call, show_call};
+ghost use Rattle.bench.specs.Archives.{write_left, new_call, add_call, close_call, check_call, record_call, whole_call, sought_call};
 
 use crate::packed::{Packed, asked_of, handed_bytes, read_bytes};
 use archive::{Put, Writer, decode_record};
@@ -69,7 +70,7 @@ pub fn malthobre_show(m: &mut Machine, memory: &[u8], address: u32) -> u64
 }
 
 pub fn malthobre_writer_new(w: &mut Writer) -> u64
-    ensures { new_left result w.new ≡ new_call }
+    ensures { left result w.new ≡ new_call }
 {
     *w = Writer::new();
     Put::Nothing.packed()
@@ -104,7 +105,7 @@ pub fn malthobre_block_record(
     place: usize,
     made: &mut [u8; 16],
 ) -> u64
-    ensures { read_left result made.new ≡ record_call block.now expected short place }
+    ensures { left result made.new ≡ record_call block.now expected short place }
 {
     let found = archive::record_at(block, expected, short, place);
     *made = read_bytes(&found);
@@ -118,7 +119,7 @@ pub fn malthobre_archive_check(bytes: &[u8]) -> u64
 }
 
 pub fn malthobre_archive_record(bytes: &[u8], number: u32, made: &mut [u8; 16]) -> u64
-    ensures { read_left result made.new ≡ sought_call bytes.now number }
+    ensures { left result made.new ≡ sought_call bytes.now number }
 {
     let found = archive::record_of_number(bytes, number);
     *made = read_bytes(&found);
