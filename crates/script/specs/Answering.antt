@@ -1,16 +1,17 @@
 -- Lines are answered one after the other, up to a stop.
-use Rattle.std.specs.Prelude.{Bool, true, false, ◌&&◌, List, [], ◌∷◌, ℕ, ◌+◌, length, leb, ltb, if◌then◌else◌}
-use Rattle.rules.specs.declared.state.Machine.{Machine}
+use Rattle.std.specs.Prelude.{Bool, true, false, ◌&&◌, List, [], ◌∷◌, ℕ, ◌+◌, length, leb, ltb, Option, None, Some, is_some, if◌then◌else◌}
 use Rattle.rules.specs.declared.answers.Answer.{Answer}
 use Rattle.rules.specs.declared.answers.Answer.TheVariants.{Refused, Ready, Taken, Moved, Waits, Load, Ll, Store, Sc, Poked, Word}
 use Rattle.rules.specs.declared.answers.Handed.{Handed}
 use Rattle.rules.specs.declared.answers.Handed.TheVariants as made
+use Rattle.machine.specs.declared.place.Stepped.{Stepped}
+use Rattle.commands.specs.Effect.{After, after}
 use Rattle.commands.specs.Texts.{answer_put, answer_end}
-use Rattle.script.specs.declared.answering.Place.{Place}
+use Rattle.script.specs.declared.work.Work as rust
 use Rattle.script.specs.declared.answering.Event.{Event}
 use Rattle.script.specs.declared.answering.Event.TheVariants as event
 use Rattle.script.specs.Lines.{whole_lines, handed_on}
-use Rattle.script.specs.Output.{Work, ran_on, after_line}
+use Rattle.script.specs.Output.{Work, work, ran_on, after_line}
 
 -- the whole lines of some bytes, as they are handed on
 abbrev pub lines_in : List ℕ → List (List ℕ)
@@ -42,22 +43,17 @@ is_ready Poked = false
 is_ready (Word v) = false
 
 -- the record that a line made, if it made one
-abbrev pub record_made : Handed → Event
-record_made made.Nothing = event.Nothing
-record_made (made.One r) = event.Made r
+abbrev pub record_made : Handed → Option Event
+record_made made.Nothing = None
+record_made (made.One r) = Some (event.Made r)
 
 -- what an archive has to know of a line
-abbrev pub event_of : Answer → Handed → Event
-event_of answer made = if is_ready answer then event.Begun else record_made made
+abbrev pub event_of : Answer → Handed → Option Event
+event_of answer made = if is_ready answer then Some event.Begun else record_made made
 
 -- where no archive is kept, no event is looked for
-abbrev pub seen_of : Bool → Answer → Handed → Event
-seen_of watch answer made = if watch then event_of answer made else event.Nothing
-
-abbrev pub is_event : Event → Bool
-is_event event.Nothing = false
-is_event event.Begun = true
-is_event (event.Made r) = true
+abbrev pub seen_of : Bool → Answer → Handed → Option Event
+seen_of watch answer made = if watch then event_of answer made else None
 
 -- where the answering stopped: the lines that are left, the output so far and the event that it stopped for
 pub record Stopped : Type 0 where
@@ -65,14 +61,18 @@ pub record Stopped : Type 0 where
   pub lines : List (List ℕ)
   pub out : List ℕ
   pub at : ℕ
-  pub event : Event
+  pub event : Option Event
 
-abbrev pub stopped : Work → List (List ℕ) → List ℕ → ℕ → Event → Stopped
+abbrev pub stopped : Work → List (List ℕ) → List ℕ → ℕ → Option Event → Stopped
 stopped w lines out at e = record { work = w; lines = lines; out = out; at = at; event = e }
 
-abbrev pub place_of : ℕ → Machine → ℕ → ℕ → ℕ → Event → Place
-place_of begun m answered from at e =
-    record { session = record { begun = begun; machine = m }; answered = answered; from = from; at = at; event = e }
+-- what the program's lines run on
+abbrev pub work_of : rust.Work → Work
+work_of w = work w.session w.memory w.owners w.holders w.answered
+
+-- what a command left there, and its answer with the record that it made
+abbrev pub left_by : Stepped → rust.Work → After
+left_by done w = after (record { answer = done.answer; made = done.made; session = w.session }) w.memory w.owners w.holders
 
 -- of a line: the output with its answer, where the answer ends, and the event
 abbrev pub answer_in : Work → List ℕ → List ℕ → ℕ → List ℕ
@@ -81,16 +81,16 @@ answer_in w line out at = answer_put (w.answered + 1) (ran_on w line).ran.answer
 abbrev pub end_in : Work → List ℕ → List ℕ → ℕ → ℕ
 end_in w line out at = answer_end (w.answered + 1) (ran_on w line).ran.answer (length out) at
 
-abbrev pub event_in : Bool → Work → List ℕ → Event
+abbrev pub event_in : Bool → Work → List ℕ → Option Event
 event_in watch w line = seen_of watch (ran_on w line).ran.answer (ran_on w line).ran.made
 
 -- Line after line, until there is no line, or no room for another answer, or an event.
 unfoldable pub answer_lines : Bool → Work → List (List ℕ) → List ℕ → ℕ → Stopped
-answer_lines watch w [] out at = stopped w [] out at event.Nothing
+answer_lines watch w [] out at = stopped w [] out at None
 answer_lines watch w (line ∷ lines) out at =
     if can_answer (length out) at w.answered
     then
-    (if is_event (event_in watch w line)
+    (if is_some (event_in watch w line)
     then stopped (after_line w line) lines (answer_in w line out at) (end_in w line out at) (event_in watch w line)
     else answer_lines watch (after_line w line) lines (answer_in w line out at) (end_in w line out at))
-    else stopped w (line ∷ lines) out at event.Nothing
+    else stopped w (line ∷ lines) out at None
