@@ -3,13 +3,13 @@
 use mathlib.Core.Path.{◌≡◌, refl, ap, sym, ◌∙◌, subst}
 use mathlib.Core.Bool.{Bool, true, false, ◌&&◌, ◌||◌, true≢false}
 use mathlib.Core.List.{List, [], ◌∷◌, ◌++◌, append_assoc}
-use Prim.Native.Nat.{ℕ, zero, ◌+◌, ◌-◌, ◌≤◌, ◌<◌}
+use Prim.Native.Nat.{ℕ, ◌+◌, ◌-◌, ◌≤◌}
 use native.Mathlib.Omega.{arith}
 use lib.ListN.{length, take, drop, length-take, length-append, length-drop}
 use lib.Seq.{take_at, drop-drop}
 use lib.Dec.{leb, ltb}
-use borrow.Author.Tests.{le-leb, leb-true, ltb-true}
-use Rattle.std.specs.Prelude.{Option, None, Some, is_some}
+use borrow.Author.Tests.{le-leb, leb-true}
+use Rattle.std.specs.Prelude.{Option, None, is_some}
 use Rattle.commands.specs.Effect.{After, run_command, run_line}
 use Rattle.commands.specs.Grammar.{command_of}
 use Rattle.commands.specs.declared.grammar.Command.{Command}
@@ -20,7 +20,7 @@ use Rattle.script.specs.declared.answering.Event.{Event}
 use Rattle.script.specs.Output.{Work, work, after_line, text_of, texts_of}
 use Rattle.script.specs.Lines.{first_line, handed, unfinished}
 use Rattle.script.specs.Answering.{answer_room, can_answer, last_number, seen_of, lines_in, stopped, answer_lines}
-use Rattle.script.proofs.Cutting.{next_line, next_left, no_line}
+use Rattle.script.proofs.Cutting.{next_line, next_left}
 
 and_left : (a b : Bool) → a && b ≡ true → a ≡ true
 and_left true b e = refl

@@ -4,14 +4,16 @@ use Rattle.std.proofs.Common.{if◌then◌else◌}
 use mathlib.Core.Path.{◌≡◌, refl, ap, sym, ◌∙◌}
 use mathlib.Core.Bool.{Bool, true, false}
 use mathlib.Core.List.{List, [], ◌∷◌, ◌++◌, append_assoc, append-nil}
-use Prim.Native.Nat.{ℕ, zero, suc, ◌+◌, ◌-◌, ◌≤◌, ◌<◌, min}
+use Prim.Native.Nat.{ℕ, suc, ◌+◌, ◌-◌, ◌≤◌, ◌<◌, min}
 use native.Mathlib.Omega.{arith}
-use lib.ListN.{length, take, drop, length-take, length-drop}
+use lib.ListN.{length, get_or, take, drop, length-take, length-drop}
 use lib.Seq.{paste, take_all, take-paste, take-take}
-use lib.Dec.{eqb, leb, ltb}
-use borrow.Author.Tests.{ne_eqb, leb-true, leb-false, ltb-true, ltb-false}
-use Rattle.std.specs.Prelude.{Option, None, Some, cond}
-use Rattle.std.specs.List.{position, position_or_len}
+use lib.Dec.{eqb, leb}
+use borrow.Author.Tests.{ne_eqb, leb-true, leb-false}
+use Rattle.std.specs.Prelude.{cond}
+use Rattle.std.specs.List.{position_or_len}
+use Rattle.std.proofs.lemmas.List.Sums.{position_or_len_is}
+use Rattle.memchr.specs.Find.{Nowhere, NoneBefore, Passes, is_byte}
 use Rattle.std.proofs.lemmas.List.Recursion.{is_position_or_len}
 use Rattle.commands.specs.Grammar.{step_word, command_of}
 use Rattle.commands.specs.Promises.{ShortStep}
@@ -84,29 +86,24 @@ first_place : (bytes : List ℕ) → length (first_line bytes) ≡ position_or_l
 first_place = is_position_or_len (λ l. length (first_line l)) (λ b. eqb b 10) refl
     (λ b bytes. by_test (λ (t : Bool). length (if t then [] else b ∷ first_line bytes) ≡ cond t 0 (1 + length (first_line bytes))) (eqb b 10) refl (omega arith))
 
-pub found_none : (bytes : List ℕ) → position (λ b. eqb b 10) bytes ≡ None → length (first_line bytes) ≡ length bytes
-found_none bytes e = go (ltb (position_or_len (λ b. eqb b 10) bytes) (length bytes)) refl e
-  where
-    go : (t : Bool) → ltb (position_or_len (λ b. eqb b 10) bytes) (length bytes) ≡ t
-        → cond t (Some (position_or_len (λ b. eqb b 10) bytes)) None ≡ None → length (first_line bytes) ≡ length bytes
-    go true q n = cc
-    go false q n =
-        let h = ltb-false (position_or_len (λ b. eqb b 10) bytes) (length bytes) q in
-        let f = first_fits bytes in
-        let p = first_place bytes in
-        omega arith
+is_not : (t : Bool) → (t ≡ true → ⊥) → t ≡ false
+is_not true n = absurd (n refl)
+is_not false n = refl
 
-pub found_some : (bytes : List ℕ) (n : ℕ) → position (λ b. eqb b 10) bytes ≡ Some n → (n ≡ length (first_line bytes)) × (n + 1 ≤ length bytes)
-found_some bytes n e = go (ltb (position_or_len (λ b. eqb b 10) bytes) (length bytes)) refl e
-  where
-    go : (t : Bool) → ltb (position_or_len (λ b. eqb b 10) bytes) (length bytes) ≡ t
-        → cond t (Some (position_or_len (λ b. eqb b 10) bytes)) None ≡ Some n → (n ≡ length (first_line bytes)) × (n + 1 ≤ length bytes)
-    go true q s =
-        let h = ltb-true (position_or_len (λ b. eqb b 10) bytes) (length bytes) q in
-        let p = first_place bytes in
-        let k : position_or_len (λ b. eqb b 10) bytes ≡ n = cc in
-        (omega arith, omega arith)
-    go false q s = cc
+-- what a search for a newline answers
+pub found_none : (bytes : List ℕ) → Nowhere (Passes (is_byte 10) bytes) 0 (length bytes) → length (first_line bytes) ≡ length bytes
+found_none bytes none =
+    first_place bytes
+    ∙ position_or_len_is (λ b. eqb b 10) bytes (length bytes) 0 (omega arith) (λ k low. is_not (eqb (get_or bytes k 0) 10) (none k (omega arith) low)) (λ h. absurd (omega arith))
+
+pub found_some : (bytes : List ℕ) (n : ℕ) → NoneBefore (Passes (is_byte 10) bytes) 0 (length bytes) n → Passes (is_byte 10) bytes n
+    → (n ≡ length (first_line bytes)) × (n + 1 ≤ length bytes)
+found_some bytes n none here =
+    let h : n < length bytes = none.high in (
+      sym (first_place bytes
+          ∙ position_or_len_is (λ b. eqb b 10) bytes n 0 (omega arith) (λ k low. is_not (eqb (get_or bytes k 0) 10) (none.before k (omega arith) low)) (λ _. here)),
+      omega arith,
+    )
 
 take_min : (a b : ℕ) (l : List ℕ) → take a (take b l) ≡ take (min a b) l
 take_min a b l = go (leb a b) refl

@@ -39,7 +39,12 @@ impl Serving<'_> {
         ensures within { IfOk result (λ flow. MatchControlFlow flow (λ from. from ≤ length bytes.now) (λ from. from ≤ length bytes.now)) }
         ensures all { IfOk result (λ flow. MatchControlFlow flow (λ _. ⊤) (λ from. ltb self.new.work.answered last_number ≡ true → lines_in (drop from bytes.now) ≡ [])) }
     {
-        let stop = answer_lines(self.archives.is_some(), &mut self.work, bytes, &mut self.out);
+        let stop = answer_lines(
+            self.archives.is_some(),
+            &mut self.work,
+            bytes,
+            &mut self.out,
+        );
         let followed = stop.event.is_some();
         follow(rt, &mut self.archives, stop.event);
         let flushed = output::make_room(rt, &mut self.out, ANSWER_ROOM)?;

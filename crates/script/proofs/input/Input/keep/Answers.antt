@@ -1,4 +1,4 @@
-use Rattle.std.proofs.Common.{◌≡◌, ◌∙◌, ap, take, length, arith}
+use Rattle.std.proofs.Common.{◌∙◌, ap, take, arith}
 use Rattle.script.proofs.Cutting.{kept_handed}
 use Rattle.script.proofs.input.Input.keep.Goals as goal
 

@@ -1,4 +1,4 @@
-use Rattle.std.proofs.Common.{arith, ◌≡◌, ◌∙◌, sym}
+use Rattle.std.proofs.Common.{arith, ◌∙◌, sym}
 use Rattle.script.proofs.Answers.{idle, can_answer_there}
 use Rattle.script.proofs.serving.Serving.answer_some.Goals as goal
 

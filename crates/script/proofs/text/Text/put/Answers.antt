@@ -1,4 +1,4 @@
-use Rattle.std.proofs.Common.{arith, ◌≡◌, ◌∙◌, ◌+◌, ◌++◌, ap, take, drop, length, length-take}
+use Rattle.std.proofs.Common.{arith, ◌≡◌, ◌∙◌, ◌+◌, ◌++◌, ap, take, drop, length-take}
 use Rattle.std.proofs.Math.Seq.{paste, take-take}
 use Rattle.std.proofs.lemmas.Slice.{put_mid-paste}
 use Rattle.script.specs.Puts.{put_text, put_end, put_count}

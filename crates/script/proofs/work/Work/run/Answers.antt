@@ -1,4 +1,3 @@
-use Rattle.std.proofs.Common.{◌≡◌, ◌∙◌}
 use Rattle.commands.specs.Effect.{after}
 use Rattle.commands.specs.Turns.{did_outcome, put_by}
 use Rattle.script.proofs.Turning.{on_its_core, sets_up, stays_sound}
@@ -9,8 +8,10 @@ invariant_of-self c =
     let s = c.args.self.now in
     let one = c.one_core_of-one in
     let d = did_outcome c.act-did.result c.act-did.new.memory c.act-did.new.owners c.act-did.new.holders in
-    record { sound = stays_sound s.session s.memory s.owners s.holders c.args.command s.sound one.result one.ensures (put_by s.session one.result.core d)
-        (on_its_core s.session s.memory s.owners s.holders c.args.command s.sound one.result one.ensures c.if-one-self.true d c.act-did.ensures) }
+    record {
+      sound = stays_sound s.session s.memory s.owners s.holders c.args.command s.sound one.result one.ensures (put_by s.session one.result.core d)
+          (on_its_core s.session s.memory s.owners s.holders c.args.command s.sound one.result one.ensures c.if-one-self.true d c.act-did.ensures);
+    }
 
 pub returns-then-one-self-clause-outcome : goal.returns-then-one-self-clause-outcome
 returns-then-one-self-clause-outcome c =
@@ -24,8 +25,10 @@ invariant_of-self-2 c =
     let s = c.args.self.now in
     let one = c.one_core_of-one in
     let a = after c.set_up-ran.result c.set_up-ran.new.memory c.set_up-ran.new.owners c.set_up-ran.new.holders in
-    record { sound = stays_sound s.session s.memory s.owners s.holders c.args.command s.sound one.result one.ensures a
-        (sets_up s.session s.memory s.owners s.holders c.args.command s.sound one.result one.ensures c.if-one-self.false a c.set_up-ran.ensures) }
+    record {
+      sound = stays_sound s.session s.memory s.owners s.holders c.args.command s.sound one.result one.ensures a
+          (sets_up s.session s.memory s.owners s.holders c.args.command s.sound one.result one.ensures c.if-one-self.false a c.set_up-ran.ensures);
+    }
 
 pub returns-clause-outcome : goal.returns-clause-outcome
 returns-clause-outcome c =
