@@ -1,69 +1,76 @@
 -- What a `new` leaves, and the lines before the first that is accepted.
 -- Assumes nothing.
+use Rattle.std.specs.Prelude.{Option, Some, None, is_some, Ok, Err}
+use Rattle.std.specs.Option.{option_map_or}
 use Rattle.std.proofs.Common.{if◌then◌else◌}
 use mathlib.Core.Path.{◌≡◌, refl, ap, ◌∙◌, sym, subst}
 use mathlib.Core.Bool.{Bool, true, false, ◌&&◌, true≢false}
-use mathlib.Core.List.{List}
+use mathlib.Core.List.{List, ◌++◌}
 use Prim.Native.Nat.{ℕ}
 use native.Mathlib.Omega.{arith}
-use lib.ListN.{length, take, take-append-drop}
+use lib.ListN.{length, take, drop, take-append-drop}
 use lib.Seq.{length-take-le}
-use lib.Dec.{eqb, leb}
-use borrow.Author.Tests.{eqb-false, leb-true}
-use Rattle.rules.specs.Answers.{number_of}
+use lib.Dec.{leb}
+use borrow.Author.Tests.{leb-true}
+use Rattle.rules.specs.Refusals.{Tested, unless_refused, number_in}
+use Rattle.rules.proofs.Numbers.{refusals_numbered}
 use Rattle.rules.specs.Calls.{Outcome, outcome, refused, all_idle, started, start_refusal, start_of}
+use Rattle.rules.specs.declared.state.Machine.{Machine}
+use Rattle.rules.specs.declared.state.Called.{Called}
+use Rattle.rules.specs.declared.refusals.Refusal.TheVariants.{LentLengths, NoMachine}
 use Rattle.commands.specs.Grammar.{command_of}
-use Rattle.commands.specs.Effect.{After, after, refused_ran, stands, new_fits, after_start, new_of, run_command, run_line}
+use Rattle.commands.specs.Effect.{After, after, refused_ran, started_ran, stands, new_fits, after_start, new_of, once_begun, give_line, step_line, poke_line, show_line, run_command, run_line}
 use Rattle.commands.specs.Promises.{Kept, RefusedNewLeaves, Afresh, AcceptedNewStartsAfresh, is_new, NineBeforeTen}
 use Rattle.commands.specs.declared.grammar.Command.{Command}
-use Rattle.commands.specs.declared.grammar.Command.TheVariants.{NotUnderstood, New, NewWith, Give, Step, Poke, Show}
+use Rattle.commands.specs.declared.grammar.Command.TheVariants.{New, Give, Step, Poke, Show}
 use Rattle.commands.specs.declared.effect.Session.{Session}
+use Rattle.commands.specs.declared.effect.Ran.{Ran}
 use Rattle.commands.proofs.Bools.{and₂}
 
 module _ (session : Session) (memory owners holders : List ℕ) (cores bytes entries : ℕ) where
-  -- by the number of its refusal
-  start_by : ℕ → Bool → Outcome
-  start_by n t =
-      if t then started cores (take bytes memory) (take entries owners) (take entries holders)
-      else outcome (refused n (all_idle 0 0 0)) (take bytes memory) (take entries owners) (take entries holders)
+  -- by its refusal
+  start_by : Tested → Outcome
+  start_by t =
+      unless_refused t (λ n. outcome (refused n (all_idle 0 0 0)) (take bytes memory) (take entries owners) (take entries holders))
+      (started cores (take bytes memory) (take entries owners) (take entries holders))
 
-  started_by : ℕ → Bool → After
-  started_by n t = after_start session bytes entries memory owners holders (start_by n t)
+  started_by : Tested → After
+  started_by t = after_start session bytes entries memory owners holders (start_by t)
 
   fits : Bool
   fits = new_fits bytes entries (length memory) (length owners) (length holders)
 
-  refusal : ℕ
+  refusal : Tested
   refusal = start_refusal cores (length (take bytes memory)) (length (take entries owners)) (length (take entries holders))
 
   new_by : Bool → After
-  new_by f = if f then started_by refusal (eqb refusal 0) else after (refused_ran 4 session) memory owners holders
+  new_by f = if f then started_by refusal else after (refused_ran LentLengths session) memory owners holders
 
   by_tests : new_of session memory owners holders cores bytes entries ≡ new_by fits
   unfolding new_of start_of new_by fits refusal started_by start_by
   by_tests = refl
 
-  refused_keeps : (n : ℕ) (t : Bool) → eqb n 0 ≡ t → (number_of (started_by n t).ran.answer ≡ 0 → ⊥) → Kept session memory owners holders (started_by n t)
+  refused_keeps : (t : Tested) → (number_in (started_by t).ran.answer ≡ 0 → ⊥) → Kept session memory owners holders (started_by t)
   unfolding started_by start_by
-  refused_keeps n true e h = absurd (h refl)
-  refused_keeps n false e h =
+  refused_keeps (Ok _) h = absurd (h refl)
+  refused_keeps (Err n) h =
       record {
-        same_session = rw e;
-        nothing_made = rw e;
+        same_session = refl;
+        nothing_made = refl;
         same_memory = take-append-drop bytes memory;
         same_owners = take-append-drop entries owners;
         same_holders = take-append-drop entries holders;
       }
 
-  new_keeps : (f : Bool) → (number_of (new_by f).ran.answer ≡ 0 → ⊥) → Kept session memory owners holders (new_by f)
+  new_keeps : (f : Bool) → (number_in (new_by f).ran.answer ≡ 0 → ⊥) → Kept session memory owners holders (new_by f)
   unfolding new_by
-  new_keeps true h = refused_keeps refusal (eqb refusal 0) refl h
+  new_keeps true h = refused_keeps refusal h
   new_keeps false h = record { same_session = refl; nothing_made = refl; same_memory = refl; same_owners = refl; same_holders = refl }
 
-  accepted_afresh : (n : ℕ) (t : Bool) → eqb n 0 ≡ t → fits ≡ true → number_of (started_by n t).ran.answer ≡ 0 → Afresh memory owners holders cores bytes entries (started_by n t)
+  accepted_afresh : (t : Tested) → fits ≡ true → number_in (started_by t).ran.answer ≡ 0 → Afresh memory owners holders cores bytes entries (started_by t)
   unfolding started_by start_by fits
-  accepted_afresh n false e f h = absurd (eqb-false n 0 e (rw e at h))
-  accepted_afresh n true e f h =
+  accepted_afresh (Err n) f h = absurd (refusals_numbered n h)
+  accepted_afresh (Ok _) f h =
       let k = and₂ (leb bytes 16384 && leb bytes (length memory)) (leb entries (length owners) && leb entries (length holders)) f in
       let tables = and₂ (leb entries (length owners)) (leb entries (length holders)) k.1 in
       let m = length-take-le bytes memory (leb-true bytes (length memory) (and₂ (leb bytes 16384) (leb bytes (length memory)) k.0).1) in
@@ -77,39 +84,56 @@ module _ (session : Session) (memory owners holders : List ℕ) (cores bytes ent
         new_holders = rw q;
       }
 
-  new_afresh : (f : Bool) → fits ≡ f → number_of (new_by f).ran.answer ≡ 0 → Afresh memory owners holders cores bytes entries (new_by f)
+  new_afresh : (f : Bool) → fits ≡ f → number_in (new_by f).ran.answer ≡ 0 → Afresh memory owners holders cores bytes entries (new_by f)
   unfolding new_by
-  new_afresh true f h = accepted_afresh refusal (eqb refusal 0) refl f h
+  new_afresh true f h = accepted_afresh refusal f h
   new_afresh false f h = absurd (omega (arith, h))
+
+-- as the code tells
+pub after_new : (session : Session) (memory owners holders : List ℕ) (cores bytes entries : ℕ) → new_fits bytes entries (length memory) (length owners) (length holders) ≡ true
+    → (called : Called) (m' o' h' : List ℕ) → outcome called m' o' h' ≡ start_of cores (take bytes memory) (take entries owners) (take entries holders)
+    → (ran : Ran) → ran ≡ started_ran session called
+    → after ran (m' ++ drop bytes memory) (o' ++ drop entries owners) (h' ++ drop entries holders) ≡ new_of session memory owners holders cores bytes entries
+unfolding new_of
+after_new session memory owners holders cores bytes entries fits called m' o' h' e ran r =
+    let there : after ran (m' ++ drop bytes memory) (o' ++ drop entries owners) (h' ++ drop entries holders) ≡ after_start session bytes entries memory owners holders (outcome called m' o' h') = rw r in
+    rw fits (there ∙ ap (after_start session bytes entries memory owners holders) e)
 
 pub refused_new_leaves : RefusedNewLeaves
 refused_new_leaves session memory owners holders cores bytes entries h =
     let e = by_tests session memory owners holders cores bytes entries in
     subst (λ (a : After). Kept session memory owners holders a) (sym e)
-    (new_keeps session memory owners holders cores bytes entries (fits session memory owners holders cores bytes entries) (λ z. h (ap (λ (a : After). number_of a.ran.answer) e ∙ z)))
+    (new_keeps session memory owners holders cores bytes entries (fits session memory owners holders cores bytes entries) (λ z. h (ap (λ (a : After). number_in a.ran.answer) e ∙ z)))
 
 pub accepted_new_starts_afresh : AcceptedNewStartsAfresh
 accepted_new_starts_afresh session memory owners holders cores bytes entries h =
     let e = by_tests session memory owners holders cores bytes entries in
     subst (λ (a : After). Afresh memory owners holders cores bytes entries a) (sym e)
-    (new_afresh session memory owners holders cores bytes entries (fits session memory owners holders cores bytes entries) refl (ap (λ (a : After). number_of a.ran.answer) (sym e) ∙ h))
+    (new_afresh session memory owners holders cores bytes entries (fits session memory owners holders cores bytes entries) refl (ap (λ (a : After). number_in a.ran.answer) (sym e) ∙ h))
 
 -- no machine stands
-before_begun : (session : Session) (memory owners holders : List ℕ) (c : Command) → stands session ≡ false → (c ≡ NotUnderstood → ⊥) → is_new c ≡ false
-    → run_command session memory owners holders c ≡ after (refused_ran 10 session) memory owners holders
-unfolding run_command
-before_begun session memory owners holders NotUnderstood b u n = absurd (u refl)
-before_begun session memory owners holders (New cores bytes) b u n = absurd (true≢false n)
-before_begun session memory owners holders (NewWith cores bytes entries) b u n = absurd (true≢false n)
-before_begun session memory owners holders (Give core operation) b u n = rw b
-before_begun session memory owners holders (Step core) b u n = rw b
-before_begun session memory owners holders (Poke a v) b u n = rw b
-before_begun session memory owners holders (Show a) b u n = rw b
+module _ (memory owners holders : List ℕ) where
+  none_stands : (session : Session) (done : Machine → After) → stands session ≡ false → once_begun session memory owners holders done ≡ after (refused_ran NoMachine session) memory owners holders
+  none_stands session done b = go session.machine refl b
+    where
+      go : (m : Option Machine) → session.machine ≡ m → is_some m ≡ false → option_map_or done m (after (refused_ran NoMachine session) memory owners holders) ≡ after (refused_ran NoMachine session) memory owners holders
+      go None e b = refl
+      go (Some m) e b = absurd (true≢false b)
+
+  before_begun : (session : Session) (c : Option Command) → stands session ≡ false → (c ≡ None → ⊥) → is_new c ≡ false
+      → run_command session memory owners holders c ≡ after (refused_ran NoMachine session) memory owners holders
+  unfolding run_command
+  before_begun session None b u n = absurd (u refl)
+  before_begun session (Some (New cores bytes entries)) b u n = absurd (true≢false n)
+  before_begun session (Some (Give core operation)) b u n = none_stands session (λ m. after (give_line m core operation) memory owners holders) b
+  before_begun session (Some (Step core)) b u n = none_stands session (λ m. step_line m memory owners holders core) b
+  before_begun session (Some (Poke a v)) b u n = none_stands session (λ m. poke_line m memory owners holders a v) b
+  before_begun session (Some (Show a)) b u n = none_stands session (λ m. after (show_line m memory a) memory owners holders) b
 
 pub nine_before_ten : NineBeforeTen
 unfolding run_line run_command
 nine_before_ten session memory owners holders line =
     record {
       nine = λ e. ap (run_command session memory owners holders) e;
-      ten = λ b u n. before_begun session memory owners holders (command_of line) b u n;
+      ten = λ b u n. before_begun memory owners holders session (command_of line) b u n;
     }

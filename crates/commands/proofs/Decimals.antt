@@ -1,5 +1,6 @@
 -- A number that is written reads as that number.
 -- Assumes nothing.
+use Rattle.std.specs.Prelude.{Some, None}
 use Rattle.std.proofs.Common.{if◌then◌else◌}
 use mathlib.Core.Path.{◌≡◌, refl, ap, ◌∙◌}
 use mathlib.Core.Bool.{Bool, true, false, not, ◌&&◌}
@@ -11,7 +12,6 @@ use lib.Dec.{eqb, ltb, leb}
 use borrow.Author.Tests.{le-leb, ltb-true, ltb-false, ne_eqb}
 use Rattle.commands.specs.Bytes.{space, first_field, more_fields, after_field}
 use Rattle.commands.specs.Decimal.{largest, is_digit, digit_of, all_digits, value_from, number_from, number_in, digits_before, decimal}
-use Rattle.commands.specs.declared.decimal.Number.TheVariants.{Wrong, Is}
 use Rattle.commands.proofs.Bools.{and₂}
 use Rattle.commands.proofs.Digits.{digit_no_space}
 use Rattle.commands.proofs.Written.{one_some}
@@ -68,14 +68,14 @@ before_first (suc f) n s l p = go (ltb 9 n) refl (λ k. before_first f (n / 10) 
     go true e k = k (ltb-true 9 n e)
     go false e k = ne_eqb (48 + n) 48 (λ q. omega (arith, q, p))
 
-number_is : (count : ℕ) (digits zeroFirst : Bool) (value n : ℕ) → 1 ≤ count → digits ≡ true → zeroFirst ≡ false → value ≡ n → n < 4294967296 → number_from count digits zeroFirst value ≡ Is n
+number_is : (count : ℕ) (digits zeroFirst : Bool) (value n : ℕ) → 1 ≤ count → digits ≡ true → zeroFirst ≡ false → value ≡ n → n < 4294967296 → number_from count digits zeroFirst value ≡ Some n
 number_is count digits zeroFirst value n c d z v l = go (ltb 1 count)
   where
-    go : (t : Bool) → (if not (eqb count 0) && digits && not (t && zeroFirst) && leb value largest then Is value else Wrong) ≡ Is n
+    go : (t : Bool) → (if not (eqb count 0) && digits && not (t && zeroFirst) && leb value largest then Some value else None) ≡ Some n
     go true = rw (ne_eqb count 0 (λ q. omega (arith, q, c)), d, z, v, le-leb n largest (omega (arith, l)))
     go false = rw (ne_eqb count 0 (λ q. omega (arith, q, c)), d, v, le-leb n largest (omega (arith, l)))
 
-pub decimal_reads : (n : ℕ) → n < 4294967296 → number_in (decimal n) ≡ Is n
+pub decimal_reads : (n : ℕ) → n < 4294967296 → number_in (decimal n) ≡ Some n
 unfolding number_in decimal digits_before all_digits value_from
 decimal_reads zero l = refl
 decimal_reads (suc n) l =

@@ -1,67 +1,20 @@
--- Fields and words at a place of a line, byte by byte.
+-- The first field of some bytes, by the place of the first space; and the word that they begin with.
 -- Assumes nothing.
+use Rattle.std.specs.Prelude.{Some, None}
+use Rattle.std.specs.List.{position, position_or_len}
+use Rattle.std.proofs.lemmas.List.Recursion.{is_position_or_len}
 use Rattle.std.proofs.Common.{if◌then◌else◌}
-use mathlib.Core.Path.{◌≡◌, refl, sym}
-use mathlib.Core.Bool.{Bool, true, false, ◌&&◌, true≢false}
+use mathlib.Core.Path.{◌≡◌, refl, ap, ◌∙◌, sym}
+use mathlib.Core.Bool.{Bool, true, false, cond, true≢false}
 use mathlib.Core.List.{List, [], ◌∷◌}
 use Prim.Native.Nat.{ℕ, suc, ◌+◌, ◌≤◌, ◌<◌}
-use native.Mathlib.Numerals.{add-one}
 use native.Mathlib.Omega.{arith}
-use lib.ListN.{length, get_or, drop, drop_of_length-le}
-use lib.Seq.{drop-cons}
-use lib.Dec.{eqb}
-use Rattle.commands.specs.Bytes.{begins, space, first_field, more_fields, field_ends, after_field}
-use Rattle.commands.proofs.Bools.{and_assoc}
-
--- a word longer than what is there
-pub begins_short : (word s : List ℕ) → length s < length word → begins word s ≡ false
-unfolding begins
-begins_short [] s l = absurd (omega arith)
-begins_short (w ∷ word) [] l = refl
-begins_short (w ∷ word) (b ∷ s) l = go (eqb b w) (begins_short word s (omega arith))
-  where
-    go : (t : Bool) → begins word s ≡ false → t && begins word s ≡ false
-    go true e = e
-    go false e = refl
-
--- one byte further
-pub begins_on : (word line : List ℕ) (i at : ℕ) (same : Bool) → i < length word → at < length line → same && begins (drop i word) (drop at line) ≡ (same && eqb (get_or line at 0) (get_or word i 0)) && begins (drop (suc i) word) (drop (suc at) line)
-unfolding begins
-begins_on word line i at same h k = rw (drop-cons word i 0 h, drop-cons line at 0 k) (and_assoc same (eqb (get_or line at 0) (get_or word i 0)) (begins (drop (suc i) word) (drop (suc at) line)))
-
-pub begins_all : (word s : List ℕ) (i : ℕ) → i ≡ length word → begins (drop i word) s ≡ true
-unfolding begins
-begins_all word s i e = let l : length word ≤ i = omega arith in rw (drop_of_length-le word l)
-
--- what a field is, at a byte that is no space and at its end
-pub first_on : (line : List ℕ) (at : ℕ) → at < length line → eqb (get_or line at 0) space ≡ false → first_field (drop at line) ≡ get_or line at 0 ∷ first_field (drop (suc at) line)
-unfolding first_field
-first_on line at k n = rw (drop-cons line at 0 k, n)
-
-pub place_on : (line : List ℕ) (at : ℕ) → at < length line → eqb (get_or line at 0) space ≡ false → at + length (first_field (drop at line)) ≡ at + 1 + length (first_field (drop (at + 1) line))
-place_on line at k n = rw (add-one, first_on line at k n) (omega arith)
-
-pub first_space : (line : List ℕ) (at : ℕ) → at < length line → eqb (get_or line at 0) space ≡ true → first_field (drop at line) ≡ []
-unfolding first_field
-first_space line at k e = rw (drop-cons line at 0 k, e)
-
-pub first_end : (line : List ℕ) (at : ℕ) → length line ≤ at → first_field (drop at line) ≡ []
-unfolding first_field
-first_end line at k = rw (drop_of_length-le line k)
-
--- whether it ends at a place
-pub ends_in : (line : List ℕ) (at : ℕ) → at < length line → field_ends (drop at line) ≡ eqb (get_or line at 0) space
-unfolding field_ends
-ends_in line at k = rw (drop-cons line at 0 k)
-
-pub ends_out : (line : List ℕ) (at : ℕ) → length line ≤ at → field_ends (drop at line) ≡ true
-unfolding field_ends
-ends_out line at k = rw (drop_of_length-le line k)
-
-pub ends_first : (s : List ℕ) → field_ends s ≡ true → first_field s ≡ []
-unfolding field_ends first_field
-ends_first [] e = refl
-ends_first (b ∷ s) e = rw e
+use lib.ListN.{length, take, drop}
+use lib.Seq.{take_all}
+use lib.Dec.{eqb, ltb}
+use borrow.Author.Tests.{ltb-true, ltb-false}
+use Rattle.commands.specs.Bytes.{space, is_space, first_field, more_fields, after_field}
+use Rattle.commands.specs.Decimal.{number_in, field_of}
 
 -- a further field follows exactly if it ends before the end
 pub more_before : (s : List ℕ) → length (first_field s) < length s → more_fields s ≡ true
@@ -92,3 +45,57 @@ after_field_lem (b ∷ s) m = go (eqb b space) m (λ h. after_field_lem s h)
         → drop (suc (length (if t then [] else b ∷ first_field s))) (b ∷ s) ≡ (if t then s else after_field s)
     go true e h = refl
     go false e h = h e
+
+-- it is the bytes before the first space
+first_is : (s : List ℕ) → first_field s ≡ take (length (first_field s)) s
+unfolding first_field
+first_is [] = refl
+first_is (b ∷ s) = go (eqb b space) (first_is s)
+  where
+    go : (t : Bool) → first_field s ≡ take (length (first_field s)) s → (if t then [] else b ∷ first_field s) ≡ take (length (if t then [] else b ∷ first_field s)) (b ∷ s)
+    go true e = refl
+    go false e = ap (λ (t : List ℕ). b ∷ t) e
+
+place : (s : List ℕ) → length (first_field s) ≡ position_or_len is_space s
+unfolding first_field
+place s = is_position_or_len (λ t. length (first_field t)) is_space refl on s
+  where
+    on : (b : ℕ) (t : List ℕ) → length (first_field (b ∷ t)) ≡ cond (is_space b) 0 (1 + length (first_field t))
+    on b t = go (eqb b 32)
+      where
+        go : (u : Bool) → length (if u then [] else b ∷ first_field t) ≡ cond u 0 (1 + length (first_field t))
+        go true = refl
+        go false = omega arith
+
+found : (s : List ℕ) → position is_space s ≡ cond (ltb (length (first_field s)) (length s)) (Some (length (first_field s))) None
+found s = rw (place s)
+
+-- no space: the field is the whole
+pub field_alone : (s : List ℕ) → position is_space s ≡ None → record { number = number_in s; next = None } ≡ field_of s
+unfolding field_of
+field_alone s e = go (ltb n (length s)) refl (sym (found s) ∙ e)
+  where
+    n : ℕ
+    n = length (first_field s)
+
+    go : (t : Bool) → ltb n (length s) ≡ t → cond t (Some n) None ≡ None → record { number = number_in s; next = None } ≡ field_of s
+    go true l h = absurd (cc)
+    go false l h =
+        let end = ltb-false n (length s) l in
+        let all : first_field s ≡ s = first_is s ∙ take_all n s end in
+        rw (all, none_after s end)
+
+-- a space: the next field begins after it
+pub field_then : (s : List ℕ) (end : ℕ) → position is_space s ≡ Some end → (record { number = number_in (take end s); next = Some (end + 1) } ≡ field_of s) × (end < length s)
+unfolding field_of
+field_then s end e = go (ltb n (length s)) refl (sym (found s) ∙ e)
+  where
+    n : ℕ
+    n = length (first_field s)
+
+    go : (t : Bool) → ltb n (length s) ≡ t → cond t (Some n) None ≡ Some end → (record { number = number_in (take end s); next = Some (end + 1) } ≡ field_of s) × (end < length s)
+    go false l h = absurd (cc)
+    go true l h =
+        let is : n ≡ end = cc in
+        let low = ltb-true n (length s) l in
+        (rw (← is, ← first_is s, more_before s low), omega arith)

@@ -1,5 +1,6 @@
 -- A line's first 81 bytes decide what it is.
 -- Assumes nothing.
+use Rattle.std.specs.Prelude.{None}
 use mathlib.Core.Path.{◌≡◌, refl, ap, ◌∙◌, sym}
 use mathlib.Core.Bool.{Bool, true, false}
 use mathlib.Core.List.{List}
@@ -12,10 +13,9 @@ use borrow.Author.Tests.{lt-ltb, ltb-true, ltb-false}
 use Rattle.commands.specs.Grammar.{command_of}
 use Rattle.commands.specs.Effect.{run_line, run_command}
 use Rattle.commands.specs.Promises.{FirstBytesDecide}
-use Rattle.commands.specs.declared.grammar.Command.TheVariants.{NotUnderstood}
 
 -- a line of more than 80 bytes
-pub long_line : (line : List ℕ) → 80 < length line → command_of line ≡ NotUnderstood
+pub long_line : (line : List ℕ) → 80 < length line → command_of line ≡ None
 unfolding command_of
 long_line line l = rw (lt-ltb 80 (length line) l)
 

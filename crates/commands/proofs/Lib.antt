@@ -1,14 +1,10 @@
 pub mod Bools
 pub mod Fields
 pub mod Digits
-pub mod Counted
 pub mod Lines
-pub mod Words
 pub mod Written
 pub mod Placed
 pub mod Numbered
-pub mod Lent
-pub mod Turning
 pub mod Decimals
 pub mod Handed
 pub mod ReadBack
@@ -16,3 +12,4 @@ pub mod ShortSteps
 pub mod OneLine
 pub mod Answers
 pub mod Begun
+pub mod Turning

@@ -1,121 +1,141 @@
--- The fields of a line as the code meets them, one after the other.
+-- The fields of a line as the code meets them, one after the other; and the word that a line begins with.
 -- Assumes nothing.
+use Rattle.std.specs.Prelude.{Option, Some, None, option_map, option_and_then}
+use Rattle.std.specs.Cmp.Lexicographic.{pointwise}
 use Rattle.std.proofs.Common.{if◌then◌else◌}
 use mathlib.Core.Path.{◌≡◌, refl, ap, ◌∙◌, sym}
-use mathlib.Core.Bool.{Bool, true, false, false≢true}
+use mathlib.Core.Bool.{Bool, true, false, ◌&&◌}
 use mathlib.Core.List.{List, [], ◌∷◌}
-use Prim.Native.Nat.{ℕ, suc, ◌+◌, ◌≤◌}
+use Prim.Native.Nat.{ℕ, ◌+◌, ◌-◌}
+use native.Mathlib.Numerals.{add-one}
 use native.Mathlib.Omega.{arith}
-use lib.ListN.{length, drop, length-drop}
-use lib.Seq.{drop-drop}
+use lib.ListN.{length, take, drop, length-drop}
+use lib.Seq.{take_all}
 use lib.Dec.{eqb}
 use Rattle.commands.specs.Bytes.{begins, first_field, more_fields, after_field}
-use Rattle.commands.specs.Decimal.{number_in, next_place, field_of}
-use Rattle.commands.specs.Grammar.{where_number, numbers_of, second_number, third_number, step_command, give_command, operation_command}
+use Rattle.commands.specs.Decimal.{number_in, field_of}
+use Rattle.commands.specs.Grammar.{numbers_of, second_number, third_number, step_command, give_command, operation_of}
 use Rattle.commands.specs.declared.decimal.Field.{Field}
-use Rattle.commands.specs.declared.decimal.Number.{Number}
-use Rattle.commands.specs.declared.decimal.Number.TheVariants as number
-use Rattle.commands.specs.declared.grammar.Numbers.TheVariants.{Wrong, One, Two, Three}
-use Rattle.commands.specs.declared.grammar.Command.TheVariants.{NotUnderstood, Step}
+use Rattle.commands.specs.declared.grammar.Numbers.TheVariants.{One, Two, Three}
+use Rattle.commands.specs.declared.grammar.Command.TheVariants.{Step, Give}
 use Rattle.commands.proofs.Fields.{after_field_lem}
-use Rattle.commands.proofs.Bools.{and₂}
 
--- a word that is there leaves room behind it
-pub begins_room : (word s : List ℕ) → begins word s ≡ true → length word ≤ length s
+-- the word that some bytes begin with, as the library tests it
+begins_is : (word s : List ℕ) → pointwise eqb (take (length word) s) word ≡ begins word s
 unfolding begins
-begins_room [] s h = omega arith
-begins_room (w ∷ word) [] h = absurd (false≢true h)
-begins_room (w ∷ word) (b ∷ s) h = let k = begins_room word s (and₂ (eqb b w) (begins word s) h).1 in omega arith
+begins_is [] s = refl
+begins_is (w ∷ word) [] = refl
+begins_is (w ∷ word) (b ∷ s) = ap (λ (t : Bool). eqb b w && t) (begins_is word s)
 
--- the word at a place of a line
-pub word_room : (word line : List ℕ) (from : ℕ) → from ≤ length line → begins word (drop from line) ≡ true → from + length word ≤ length line
-word_room word line from l h = let k = begins_room word (drop from line) h in let e = length-drop from line in omega (arith, k, e)
+pub tested : (word s : List ℕ) (t : Bool) → pointwise eqb (take (length word) s) word ≡ t → begins word s ≡ t
+tested word s t e = sym (begins_is word s) ∙ e
 
--- two numbers or three are no step's
-not_one : (a : ℕ) (s : List ℕ) → NotUnderstood ≡ step_command (second_number a s)
+-- what stands from a place on, as a slice has it
+pub from_on : (s : List ℕ) (n : ℕ) → take (length s - n) (drop n s) ≡ drop n s
+from_on s n = take_all (length s - n) (drop n s) (let l = length-drop n s in omega (arith, l))
+
+no_step : (a : ℕ) (s : List ℕ) → None ≡ option_and_then step_command (second_number a s)
 unfolding second_number third_number
-not_one a s = go (number_in (first_field s)) (more_fields s) (number_in (first_field (after_field s))) (more_fields (after_field s))
+no_step a s = go (number_in (first_field s)) (more_fields s) (number_in (first_field (after_field s))) (more_fields (after_field s))
   where
-    go : (n : Number) (t : Bool) (m : Number) (u : Bool) → NotUnderstood ≡ step_command (where_number Wrong n (λ b. if t then where_number Wrong m (λ c. if u then Wrong else Three a b c) else Two a b))
-    go number.Wrong t m u = refl
-    go (number.Is b) false m u = refl
-    go (number.Is b) true number.Wrong u = refl
-    go (number.Is b) true (number.Is c) true = refl
-    go (number.Is b) true (number.Is c) false = refl
+    go : (n : Option ℕ) (t : Bool) (m : Option ℕ) (u : Bool)
+        → None ≡ option_and_then step_command (option_and_then (λ b. if t then option_and_then (λ c. if u then None else Some (Three a b c)) m else Some (Two a b)) n)
+    go None t m u = refl
+    go (Some b) false m u = refl
+    go (Some b) true None u = refl
+    go (Some b) true (Some c) true = refl
+    go (Some b) true (Some c) false = refl
 
-module _ (line : List ℕ) (from : ℕ) (f : Field) (e : f ≡ field_of line from) where
-  pub field_number : number_in (first_field (drop from line)) ≡ f.number
+module _ (s : List ℕ) (f : Field) (e : f ≡ field_of s) where
+  number : number_in (first_field s) ≡ f.number
   unfolding field_of
-  field_number = sym (ap (λ (g : Field). g.number) e)
+  number = sym (ap (λ (g : Field). g.number) e)
 
-  pub field_goes_on : more_fields (drop from line) ≡ f.more
+  more : (t : Bool) → more_fields s ≡ t → f.next ≡ (if t then Some (length (first_field s) + 1) else None)
   unfolding field_of
-  field_goes_on = sym (ap (λ (g : Field). g.more) e)
+  more t m = ap (λ (g : Field). g.next) e ∙ rw m
 
-  pub field_next : f.more ≡ true → after_field (drop from line) ≡ drop f.next line
-  unfolding field_of next_place
-  field_next m =
-      let more : more_fields (drop from line) ≡ true = field_goes_on ∙ m in
-      let n : f.next ≡ from + suc (length (first_field (drop from line))) = ap (λ (g : Field). g.next) e ∙ rw more (omega arith) in
-      sym (rw n (sym (drop-drop (suc (length (first_field (drop from line)))) from line) ∙ after_field_lem (drop from line) more))
+  goes_on : (n : ℕ) → f.next ≡ Some n → (more_fields s ≡ true) × (after_field s ≡ drop n s)
+  goes_on n h = by (more_fields s) refl
+    where
+      by : (t : Bool) → more_fields s ≡ t → (more_fields s ≡ true) × (after_field s ≡ drop n s)
+      by false m = absurd (let k = more false m in cc)
+      by true m = (m, let k = more true m in let is : n ≡ length (first_field s) + 1 = cc in rw (is, add-one) (sym (after_field_lem s m)))
 
-  -- one to three numbers
-  pub numbers_wrong : f.number ≡ number.Wrong → Wrong ≡ numbers_of (drop from line)
+  ends : f.next ≡ None → more_fields s ≡ false
+  ends h = by (more_fields s) refl
+    where
+      by : (t : Bool) → more_fields s ≡ t → more_fields s ≡ false
+      by false m = m
+      by true m = absurd (let k = more true m in cc)
+
+  -- a number
+  pub numbers_none : f.number ≡ None → None ≡ numbers_of s
   unfolding numbers_of
-  numbers_wrong n = rw (field_number ∙ n)
+  numbers_none n = rw (number ∙ n)
 
-  pub numbers_one : (a : ℕ) → f.number ≡ number.Is a → f.more ≡ false → One a ≡ numbers_of (drop from line)
+  pub numbers_one : (a : ℕ) → f.number ≡ Some a → f.next ≡ None → Some (One a) ≡ numbers_of s
   unfolding numbers_of
-  numbers_one a n m = rw (field_number ∙ n, field_goes_on ∙ m)
+  numbers_one a n m = rw (number ∙ n, ends m)
 
-  -- a step's one
-  pub step_wrong : f.number ≡ number.Wrong → NotUnderstood ≡ step_command (numbers_of (drop from line))
-  step_wrong n = ap step_command (numbers_wrong n)
-
-  pub step_one : (a : ℕ) → f.number ≡ number.Is a → f.more ≡ false → Step a ≡ step_command (numbers_of (drop from line))
-  step_one a n m = ap step_command (numbers_one a n m)
-
-  pub step_more : (a : ℕ) → f.number ≡ number.Is a → f.more ≡ true → NotUnderstood ≡ step_command (numbers_of (drop from line))
+  numbers_on : (a next : ℕ) → f.number ≡ Some a → f.next ≡ Some next → second_number a (drop next s) ≡ numbers_of s
   unfolding numbers_of
-  step_more a n m = rw (field_number ∙ n, field_goes_on ∙ m) (not_one a (after_field (drop from line)))
+  numbers_on a next n m = let k = goes_on next m in rw (number ∙ n, k.0, k.1)
 
-  pub numbers_on : (a : ℕ) → f.number ≡ number.Is a → f.more ≡ true → second_number a (drop f.next line) ≡ numbers_of (drop from line)
-  unfolding numbers_of
-  numbers_on a n m = rw (field_number ∙ n, field_goes_on ∙ m, field_next m)
-
-  pub second_wrong : (a : ℕ) → f.number ≡ number.Wrong → Wrong ≡ second_number a (drop from line)
+  second_on : (a b next : ℕ) → f.number ≡ Some b → f.next ≡ Some next → third_number a b (drop next s) ≡ second_number a s
   unfolding second_number
-  second_wrong a n = rw (field_number ∙ n)
-
-  pub second_two : (a b : ℕ) → f.number ≡ number.Is b → f.more ≡ false → Two a b ≡ second_number a (drop from line)
-  unfolding second_number
-  second_two a b n m = rw (field_number ∙ n, field_goes_on ∙ m)
-
-  pub second_on : (a b : ℕ) → f.number ≡ number.Is b → f.more ≡ true → third_number a b (drop f.next line) ≡ second_number a (drop from line)
-  unfolding second_number
-  second_on a b n m = rw (field_number ∙ n, field_goes_on ∙ m, field_next m)
-
-  pub third_wrong : (a b : ℕ) → f.number ≡ number.Wrong → Wrong ≡ third_number a b (drop from line)
-  unfolding third_number
-  third_wrong a b n = rw (field_number ∙ n)
-
-  pub third_on : (a b c : ℕ) → f.number ≡ number.Is c → f.more ≡ true → Wrong ≡ third_number a b (drop from line)
-  unfolding third_number
-  third_on a b c n m = rw (field_number ∙ n, field_goes_on ∙ m)
-
-  pub third_three : (a b c : ℕ) → f.number ≡ number.Is c → f.more ≡ false → Three a b c ≡ third_number a b (drop from line)
-  unfolding third_number
-  third_three a b c n m = rw (field_number ∙ n, field_goes_on ∙ m)
+  second_on a b next n m = let k = goes_on next m in rw (number ∙ n, k.0, k.1)
 
   -- `give`'s core
-  pub give_wrong : f.number ≡ number.Wrong → NotUnderstood ≡ give_command (drop from line)
+  pub give_none : f.number ≡ None → None ≡ give_command s
   unfolding give_command
-  give_wrong n = rw (field_number ∙ n)
+  give_none n = rw (number ∙ n)
 
-  pub give_short : (core : ℕ) → f.number ≡ number.Is core → f.more ≡ false → NotUnderstood ≡ give_command (drop from line)
+  pub give_short : (core : ℕ) → f.number ≡ Some core → f.next ≡ None → None ≡ give_command s
   unfolding give_command
-  give_short core n m = rw (field_number ∙ n, field_goes_on ∙ m)
+  give_short core n m = rw (number ∙ n, ends m)
 
-  pub give_on : (core : ℕ) → f.number ≡ number.Is core → f.more ≡ true → operation_command core (drop f.next line) ≡ give_command (drop from line)
+  pub give_on : (core next : ℕ) (t : List ℕ) → f.number ≡ Some core → f.next ≡ Some next → t ≡ drop next s → option_map (Give core) (operation_of t) ≡ give_command s
   unfolding give_command
-  give_on core n m = rw (field_number ∙ n, field_goes_on ∙ m, field_next m)
+  give_on core next t n m rest = let k = goes_on next m in rw (number ∙ n, k.0, k.1, rest)
+
+  -- a step's one number
+  pub step_none : f.number ≡ None → None ≡ option_and_then step_command (numbers_of s)
+  step_none n = ap (option_and_then step_command) (numbers_none n)
+
+  pub step_one : (core : ℕ) → f.number ≡ Some core → f.next ≡ None → Some (Step core) ≡ option_and_then step_command (numbers_of s)
+  step_one core n m = ap (option_and_then step_command) (numbers_one core n m)
+
+-- a second
+module _ (s : List ℕ) (f : Field) (e : f ≡ field_of s) (a next : ℕ) (n : f.number ≡ Some a) (m : f.next ≡ Some next) (t : List ℕ) (rest : t ≡ drop next s) (g : Field) (h : g ≡ field_of t) where
+  second : second_number a t ≡ numbers_of s
+  second = ap (second_number a) rest ∙ numbers_on s f e a next n m
+
+  pub second_none : g.number ≡ None → None ≡ numbers_of s
+  unfolding second_number
+  second_none k = rw (number t g h ∙ k) at second
+
+  pub second_two : (b : ℕ) → g.number ≡ Some b → g.next ≡ None → Some (Two a b) ≡ numbers_of s
+  unfolding second_number
+  second_two b k l = rw (number t g h ∙ k, ends t g h l) at second
+
+  -- and a third
+  module _ (b next' : ℕ) (k : g.number ≡ Some b) (l : g.next ≡ Some next') (u : List ℕ) (rest' : u ≡ drop next' t) (i : Field) (j : i ≡ field_of u) where
+    third : third_number a b u ≡ numbers_of s
+    third = ap (third_number a b) rest' ∙ second_on t g h a b next' k l ∙ second
+
+    pub third_none : i.number ≡ None → None ≡ numbers_of s
+    unfolding third_number
+    third_none p = rw (number u i j ∙ p) at third
+
+    pub third_on : (c after : ℕ) → i.number ≡ Some c → i.next ≡ Some after → None ≡ numbers_of s
+    unfolding third_number
+    third_on c after p q = rw (number u i j ∙ p, (goes_on u i j after q).0) at third
+
+    pub third_three : (c : ℕ) → i.number ≡ Some c → i.next ≡ None → Some (Three a b c) ≡ numbers_of s
+    unfolding third_number
+    third_three c p q = rw (number u i j ∙ p, ends u i j q) at third
+
+-- two numbers or three are no step's
+pub step_more : (s : List ℕ) (f : Field) (e : f ≡ field_of s) (core next : ℕ) → f.number ≡ Some core → f.next ≡ Some next → None ≡ option_and_then step_command (numbers_of s)
+step_more s f e core next n m = no_step core (drop next s) ∙ ap (option_and_then step_command) (numbers_on s f e core next n m)

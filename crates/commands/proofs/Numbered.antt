@@ -1,5 +1,6 @@
 -- The digits of a line's number, kept from line to line, and what follows them.
 -- Assumes nothing.
+use Rattle.std.specs.Prelude.{Result, Ok, Err}
 use Rattle.std.proofs.Common.{if◌then◌else◌}
 use mathlib.Core.Path.{◌≡◌, refl, ap, ◌∙◌, sym}
 use mathlib.Core.Bool.{Bool, true, false}
@@ -10,9 +11,10 @@ use lib.ListN.{length, take, drop, replicate, length-append}
 use lib.Seq.{take_at, length-take-le}
 use lib.Dec.{leb, ltb}
 use borrow.Author.Tests.{lt-ltb, lt-leb, le-leb, leb-true, ltb-true}
-use Rattle.rules.specs.Answers.{number_of}
+use Rattle.rules.specs.Refusals.{number_in}
 use Rattle.rules.specs.declared.answers.Answer.{Answer}
-use Rattle.rules.specs.declared.answers.Answer.TheVariants.{Refused, Ready, Taken, Moved, Waits, Load, Ll, Store, Sc, Poked, Word}
+use Rattle.rules.specs.declared.answers.Answer.TheVariants.{Ready, Taken, Moved, Waits, Load, Ll, Store, Sc, Poked, Word}
+use Rattle.rules.specs.declared.refusals.Refusal.{Refusal}
 use Rattle.commands.specs.Bytes.{space, put_in}
 use Rattle.commands.specs.Decimal.{decimal}
 use Rattle.commands.specs.Texts.{words_of, newline, number_text, rest_of, line_text, line_put, line_end, answer_put, answer_end, line_number_of, can_stand, two_digits, digits_stand, line_number, counted_on, digits_of, PutBefore}
@@ -68,10 +70,10 @@ counts_on n = go (ltb (n % 100) 99) refl
         rw (before, last)
 
 -- so a line's answer is the one of its number
-pub line_put_lem : (n : ℕ) (answer : Answer) (out : List ℕ) (at : ℕ) → line_put (digits_of n (line_number n)) answer out at ≡ answer_put n answer out at
+pub line_put_lem : (n : ℕ) (answer : Result Answer Refusal) (out : List ℕ) (at : ℕ) → line_put (digits_of n (line_number n)) answer out at ≡ answer_put n answer out at
 line_put_lem n answer out at = rw (digits_are n)
 
-pub line_end_lem : (n : ℕ) (answer : Answer) (lent at : ℕ) → line_end (digits_of n (line_number n)) answer lent at ≡ answer_end n answer lent at
+pub line_end_lem : (n : ℕ) (answer : Result Answer Refusal) (lent at : ℕ) → line_end (digits_of n (line_number n)) answer lent at ≡ answer_end n answer lent at
 line_end_lem n answer lent at = rw (digits_are n)
 
 -- all eight bytes put in, and the last two digits after those that stand there
@@ -118,7 +120,7 @@ own_put number line at out out₁ e₁ small none p =
     rw (none, p.bytes) ((λ text five room. put_put (decimal number) text at out room), (end, omega arith))
 
 -- what follows the number
-pub rest_put : (answer : Answer) (n at : ℕ) (out out₁ out₂ out₃ out₄ : List ℕ) (e₁ e₂ e₃ e₄ : ℕ) → n ≡ number_of answer → at + 28 ≤ length out
+pub rest_put : (answer : Result Answer Refusal) (n at : ℕ) (out out₁ out₂ out₃ out₄ : List ℕ) (e₁ e₂ e₃ e₄ : ℕ) → n ≡ number_in answer → at + 28 ≤ length out
     → Put (space ∷ []) at out out₁ e₁ → Put (number_text n) e₁ out₁ out₂ e₂ → e₂ ≤ e₁ + 11 → Put (words_of answer) e₂ out₂ out₃ e₃ → e₃ ≤ e₂ + 15 → Put (newline ∷ []) e₃ out₃ out₄ e₄
     → Put (rest_of answer) at out out₄ e₄
 unfolding rest_of
@@ -130,35 +132,35 @@ rest_put answer n at out out₁ out₂ out₃ out₄ e₁ e₂ e₃ e₄ is room
     let l₃ : length (space ∷ number_text n ++ words_of answer) ≤ 27 = rw length-append (omega arith) in
     rw (← is) (put_then (space ∷ number_text n ++ words_of answer) (newline ∷ []) at out out₃ out₄ e₃ e₄ three s (omega arith))
 
-words_some : (answer : Answer) → 1 ≤ length (words_of answer)
+words_some : (answer : Result Answer Refusal) → 1 ≤ length (words_of answer)
 unfolding words_of
-words_some (Refused n) = omega arith
-words_some Ready = omega arith
-words_some Taken = omega arith
-words_some Moved = omega arith
-words_some Waits = omega arith
-words_some (Load v) = omega arith
-words_some (Ll v) = omega arith
-words_some Store = omega arith
-words_some (Sc v) = omega arith
-words_some Poked = omega arith
-words_some (Word v) = omega arith
+words_some (Err n) = omega arith
+words_some (Ok Ready) = omega arith
+words_some (Ok Taken) = omega arith
+words_some (Ok Moved) = omega arith
+words_some (Ok Waits) = omega arith
+words_some (Ok (Load v)) = omega arith
+words_some (Ok (Ll v)) = omega arith
+words_some (Ok Store) = omega arith
+words_some (Ok (Sc v)) = omega arith
+words_some (Ok Poked) = omega arith
+words_some (Ok (Word v)) = omega arith
 
-rest_some : (answer : Answer) → 5 ≤ length (rest_of answer)
+rest_some : (answer : Result Answer Refusal) → 5 ≤ length (rest_of answer)
 unfolding rest_of
 rest_some answer =
-    let n = one_some (number_of answer) in
+    let n = one_some (number_in answer) in
     let w = words_some answer in
     simp length-append (omega arith)
 
 -- what is known once an answer was to be written
-abbrev LinePut : List ℕ → Answer → ℕ → List ℕ → List ℕ → ℕ → Type 0
+abbrev LinePut : List ℕ → Result Answer Refusal → ℕ → List ℕ → List ℕ → ℕ → Type 0
 LinePut digits answer at out out' end = (out' ≡ line_put digits answer out at) × ((end ≡ line_end digits answer (length out) at) × (end ≤ at + 48))
 
-pub no_room : (digits : List ℕ) (answer : Answer) (at : ℕ) (out : List ℕ) → length out < at + 48 → LinePut digits answer at out out at
+pub no_room : (digits : List ℕ) (answer : Result Answer Refusal) (at : ℕ) (out : List ℕ) → length out < at + 48 → LinePut digits answer at out out at
 no_room digits answer at out l = rw (lt-leb (at + 48) (length out) l) (refl, (refl, omega arith))
 
-pub line_written : (digits : List ℕ) (answer : Answer) (at : ℕ) (out out₁ out₂ : List ℕ) (e₁ e₂ : ℕ) → at + 48 ≤ length out
+pub line_written : (digits : List ℕ) (answer : Result Answer Refusal) (at : ℕ) (out out₁ out₂ : List ℕ) (e₁ e₂ : ℕ) → at + 48 ≤ length out
     → NumberPut digits at out out₁ e₁ → Put (rest_of answer) e₁ out₁ out₂ e₂ → e₂ ≤ e₁ + 28 → LinePut digits answer at out out₂ e₂
 unfolding line_text
 line_written digits answer at out out₁ out₂ e₁ e₂ room p q few =

@@ -1,5 +1,6 @@
 -- A command that is written and read is the same command.
 -- Assumes nothing.
+use Rattle.std.specs.Prelude.{Some, None}
 use mathlib.Core.Path.{◌≡◌, ap, ◌∙◌}
 use mathlib.Core.Bool.{true, false}
 use mathlib.Core.List.{List, ◌∷◌, ◌++◌, append_assoc}
@@ -12,23 +13,22 @@ use Rattle.rules.specs.declared.answers.Operation.{Operation}
 use Rattle.rules.specs.declared.answers.Operation.TheVariants.{Load, Ll, Store, Sc}
 use Rattle.commands.specs.Bytes.{begins, space, first_field, more_fields, after_field}
 use Rattle.commands.specs.Decimal.{number_in, decimal}
-use Rattle.commands.specs.Grammar.{new_word, give_word, step_word, poke_word, show_word, load_word, ll_word, store_word, sc_word, third_number, second_number, numbers_of, operation_command, give_command, command_of, operation_text, line_of}
+use Rattle.commands.specs.Grammar.{new_word, give_word, step_word, poke_word, show_word, load_word, ll_word, store_word, sc_word, third_number, second_number, numbers_of, operation_of, give_command, command_of, operation_text, line_of}
 use Rattle.commands.specs.Promises.{Small, SmallOperation, Writable, RoundTrip}
-use Rattle.commands.specs.declared.decimal.Number.TheVariants as number
 use Rattle.commands.specs.declared.grammar.Numbers.TheVariants.{One, Two, Three}
 use Rattle.commands.specs.declared.grammar.Command.{Command}
-use Rattle.commands.specs.declared.grammar.Command.TheVariants.{NotUnderstood, New, NewWith, Give, Step, Poke, Show}
+use Rattle.commands.specs.declared.grammar.Command.TheVariants.{New, Give, Step, Poke, Show}
 use Rattle.commands.proofs.Placed.{decimal_few}
 use Rattle.commands.proofs.Decimals.{decimal_digits, decimal_reads, first_digits, more_digits, first_then, more_then, after_then}
 
 -- the last number of a line, and one before others
-last_number_lem : (n : ℕ) → Small n → number_in (first_field (decimal n)) ≡ number.Is n
+last_number_lem : (n : ℕ) → Small n → number_in (first_field (decimal n)) ≡ Some n
 last_number_lem n l = ap number_in (first_digits (decimal n) (decimal_digits n)) ∙ decimal_reads n l
 
 last_more : (n : ℕ) → more_fields (decimal n) ≡ false
 last_more n = more_digits (decimal n) (decimal_digits n)
 
-front_number : (n : ℕ) (t : List ℕ) → Small n → number_in (first_field (decimal n ++ space ∷ t)) ≡ number.Is n
+front_number : (n : ℕ) (t : List ℕ) → Small n → number_in (first_field (decimal n ++ space ∷ t)) ≡ Some n
 front_number n t l = ap number_in (first_then (decimal n) t (decimal_digits n)) ∙ decimal_reads n l
 
 front_more : (n : ℕ) (t : List ℕ) → more_fields (decimal n ++ space ∷ t) ≡ true
@@ -37,15 +37,15 @@ front_more n t = more_then (decimal n) t (decimal_digits n)
 front_after : (n : ℕ) (t : List ℕ) → after_field (decimal n ++ space ∷ t) ≡ t
 front_after n t = after_then (decimal n) t (decimal_digits n)
 
-read_one : (a : ℕ) → Small a → numbers_of (decimal a) ≡ One a
+read_one : (a : ℕ) → Small a → numbers_of (decimal a) ≡ Some (One a)
 unfolding numbers_of
 read_one a l = rw (last_number_lem a l, last_more a)
 
-read_second : (a b : ℕ) → Small b → second_number a (decimal b) ≡ Two a b
+read_second : (a b : ℕ) → Small b → second_number a (decimal b) ≡ Some (Two a b)
 unfolding second_number
 read_second a b l = rw (last_number_lem b l, last_more b)
 
-read_third : (a b c : ℕ) → Small c → third_number a b (decimal c) ≡ Three a b c
+read_third : (a b c : ℕ) → Small c → third_number a b (decimal c) ≡ Some (Three a b c)
 unfolding third_number
 read_third a b c l = rw (last_number_lem c l, last_more c)
 
@@ -57,24 +57,24 @@ read_on_third : (a b : ℕ) (s : List ℕ) → Small b → second_number a (deci
 unfolding second_number
 read_on_third a b s l = rw (front_number b s l, front_more b s, front_after b s)
 
-read_two_lem : (a b : ℕ) → Small a → Small b → numbers_of (decimal a ++ space ∷ decimal b) ≡ Two a b
+read_two_lem : (a b : ℕ) → Small a → Small b → numbers_of (decimal a ++ space ∷ decimal b) ≡ Some (Two a b)
 read_two_lem a b l k = read_on_second a (decimal b) l ∙ read_second a b k
 
-read_three : (a b c : ℕ) → Small a → Small b → Small c → numbers_of (decimal a ++ space ∷ decimal b ++ space ∷ decimal c) ≡ Three a b c
+read_three : (a b c : ℕ) → Small a → Small b → Small c → numbers_of (decimal a ++ space ∷ decimal b ++ space ∷ decimal c) ≡ Some (Three a b c)
 read_three a b c l k h =
     ap numbers_of (append_assoc (decimal a) (space ∷ decimal b) (space ∷ decimal c)) ∙ read_on_second a (decimal b ++ space ∷ decimal c) l ∙ read_on_third a b (decimal c) k ∙ read_third a b c h
 
 -- the operation of a `give`
-read_operation : (core : ℕ) (o : Operation) → SmallOperation o → operation_command core (operation_text o) ≡ Give core o
-unfolding operation_command operation_text begins
-read_operation core (Load a) l = rw (read_one a.0 l)
-read_operation core (Ll a) l = rw (read_one a.0 l)
-read_operation core (Store a v) l = rw (read_two_lem a.0 v l.0 l.1)
-read_operation core (Sc a v) l = rw (read_two_lem a.0 v l.0 l.1)
+read_operation : (o : Operation) → SmallOperation o → operation_of (operation_text o) ≡ Some o
+unfolding operation_of operation_text begins
+read_operation (Load a) l = rw (read_one a.0 l)
+read_operation (Ll a) l = rw (read_one a.0 l)
+read_operation (Store a v) l = rw (read_two_lem a.0 v l.0 l.1)
+read_operation (Sc a v) l = rw (read_two_lem a.0 v l.0 l.1)
 
-read_give : (core : ℕ) (o : Operation) → Small core → SmallOperation o → give_command (decimal core ++ space ∷ operation_text o) ≡ Give core o
+read_give : (core : ℕ) (o : Operation) → Small core → SmallOperation o → give_command (decimal core ++ space ∷ operation_text o) ≡ Some (Give core o)
 unfolding give_command
-read_give core o l k = rw (front_number core (operation_text o) l, front_more core (operation_text o), front_after core (operation_text o)) (read_operation core o k)
+read_give core o l k = rw (front_number core (operation_text o) l, front_more core (operation_text o), front_after core (operation_text o), read_operation o k)
 
 -- no line of a command is too long
 few : (n : ℕ) → Small n → length (decimal n) ≤ 10
@@ -98,9 +98,8 @@ operation_few (Sc a v) l = let p = two_few sc_word a.0 v l.0 l.1 in omega (arith
 
 command_few : (c : Command) → Writable c → length (line_of c) ≤ 80
 unfolding line_of
-command_few NotUnderstood w = absurd w
-command_few (New cores bytes) w = let p = two_few new_word cores bytes w.0 w.1 in omega (arith, p)
-command_few (NewWith cores bytes entries) w =
+command_few (New cores bytes None) w = let p = two_few new_word cores bytes w.0 w.1 in omega (arith, p)
+command_few (New cores bytes (Some entries)) w =
     let p = two_few new_word cores bytes w.0 w.1 in
     let q = few entries w.2 in
     rw (length-append (new_word ++ decimal cores ++ space ∷ decimal bytes) (space ∷ decimal entries)) (omega (arith, p, q))
@@ -118,10 +117,12 @@ short line l = le-ltb 80 (length line) l
 
 pub round_trip : RoundTrip
 unfolding command_of line_of begins
-round_trip NotUnderstood w = absurd w
-round_trip (New cores bytes) w = rw (short (line_of (New cores bytes)) (command_few (New cores bytes) w), read_two_lem cores bytes w.0 w.1)
-round_trip (NewWith cores bytes entries) w =
-    rw (short (line_of (NewWith cores bytes entries)) (command_few (NewWith cores bytes entries) w), read_three cores bytes entries w.0 w.1 w.2)
+round_trip (New cores bytes None) w =
+    let c = New cores bytes None in
+    rw (short (line_of c) (command_few c w), read_two_lem cores bytes w.0 w.1)
+round_trip (New cores bytes (Some entries)) w =
+    let c = New cores bytes (Some entries) in
+    rw (short (line_of c) (command_few c w), read_three cores bytes entries w.0 w.1 w.2)
 round_trip (Give core operation) w = rw (short (line_of (Give core operation)) (command_few (Give core operation) w)) (read_give core operation w.0 w.1)
 round_trip (Step core) w = rw (short (line_of (Step core)) (command_few (Step core) w), read_one core w)
 round_trip (Poke a v) w = rw (short (line_of (Poke a v)) (command_few (Poke a v) w), read_two_lem a.0 v w.0 w.1)

@@ -1,23 +1,27 @@
 -- Bytes that begin with a step of one digit and its newline begin with a line that is that step.
 -- Assumes nothing.
+use Rattle.std.specs.Prelude.{Some, None}
+use Rattle.std.proofs.lemmas.Option.{same_Some}
 use Rattle.std.proofs.Common.{if◌then◌else◌}
+use Rattle.std.specs.Cmp.Lexicographic.{pointwise}
 use mathlib.Core.Path.{◌≡◌, refl, sym, ap, ◌∙◌}
-use mathlib.Core.Bool.{Bool, true, false, not, ◌&&◌, false≢true}
+use mathlib.Core.Bool.{Bool, true, false, ◌&&◌, false≢true}
 use mathlib.Core.List.{List, [], ◌∷◌, ◌++◌}
-use Prim.Native.Nat.{ℕ, ◌+◌, ◌-◌, ◌≤◌}
+use Prim.Native.Nat.{ℕ, ◌+◌, ◌-◌, ◌≤◌, ◌<◌}
 use native.Mathlib.Omega.{arith}
-use lib.ListN.{length, get_or, drop}
+use lib.ListN.{length, get_or, take, drop}
+use lib.Seq.{get_or-drop}
 use lib.Dec.{leb, eqb}
-use borrow.Author.Tests.{eqb-true, leb-true, le-leb, le-ltb, not-false, not-true}
+use borrow.Author.Tests.{eqb-true, eq-eqb, le-leb, lt-leb, le-ltb}
 use Rattle.rules.proofs.Bools.{and₂, and₃}
 use Rattle.commands.specs.Bytes.{begins}
 use Rattle.commands.specs.Decimal.{is_digit, digits_before, decimal}
 use Rattle.commands.specs.Grammar.{step_word, command_of, begins_short_step, short_step, line_of}
 use Rattle.commands.specs.Promises.{ShortStep, ShortSteps}
 use Rattle.commands.specs.Texts.{newline}
-use Rattle.commands.specs.declared.decimal.Number.{Number}
-use Rattle.commands.specs.declared.decimal.Number.TheVariants.{Wrong, Is}
 use Rattle.commands.specs.declared.grammar.Command.TheVariants.{Step}
+use Rattle.commands.proofs.Digits.{digit_bounds}
+use Rattle.commands.proofs.Lines.{tested}
 use Rattle.commands.proofs.ReadBack.{round_trip}
 
 -- what the test of the bytes gives
@@ -40,61 +44,56 @@ shape (a ∷ b ∷ c ∷ d ∷ e ∷ f ∷ g ∷ t) h =
     let y₅ = and₂ (eqb e 32) true y₄.1 in
     (x.1, λ i. eqb-true a 115 y₁.0 i ∷ eqb-true b 116 y₂.0 i ∷ eqb-true c 101 y₃.0 i ∷ eqb-true d 112 y₄.0 i ∷ eqb-true e 32 y₅.0 i ∷ f ∷ eqb-true g 10 x.2 i ∷ t)
 
-digit_bounds : (b : ℕ) → is_digit b ≡ true → (48 ≤ b) × (b ≤ 57)
-digit_bounds b h = let t = and₂ (leb 48 b) (leb b 57) h in (leb-true 48 b t.0, leb-true b 57 t.1)
+-- as the bytes are tested: the word, and then what stands after it
+pub short_none : (s : List ℕ) → pointwise eqb (take 5 s) step_word ≡ false → None ≡ short_step s
+unfolding short_step
+short_none s e = rw (tested step_word s false e) (go (leb 7 (length s)))
+  where
+    go : (t : Bool) → None ≡ (if t && false then Some (get_or s 5 0 - 48) else None)
+    go true = refl
+    go false = refl
 
--- the tests as they are made
-module _ (s : List ℕ) (b d : Bool) (pb : b ≡ begins step_word s) (pd : d ≡ is_digit (get_or s 5 0)) (long : 7 ≤ length s) where
-  tested : begins_short_step s ≡ b && d && eqb (get_or s 6 0) 10
-  tested = rw (le-leb 7 (length s) long, ← pb, ← pd)
+module _ (s t : List ℕ) (there : pointwise eqb (take 5 s) step_word ≡ true) (rest : t ≡ drop 5 s) (len : length t + 5 ≡ length s) where
+  at_rest : (k : ℕ) → get_or t k 0 ≡ get_or s (5 + k) 0
+  at_rest k = ap (λ (u : List ℕ). get_or u k 0) rest ∙ get_or-drop 5 s k 0
 
-  pub short_not : not (b && d && eqb (get_or s 6 0) 10) ≡ true → Wrong ≡ short_step s
+  pub short_few : length t < 2 → None ≡ short_step s
   unfolding short_step
-  short_not h = rw (tested, not-true (b && d && eqb (get_or s 6 0) 10) h)
+  short_few l = rw (lt-leb 7 (length s) (omega arith))
 
-  pub short_so : not (b && d && eqb (get_or s 6 0) 10) ≡ false → Is (get_or s 5 0 - 48) ≡ short_step s
-  unfolding short_step
-  short_so h = rw (tested, not-false (b && d && eqb (get_or s 6 0) 10) h)
+  module _ (long : 2 ≤ length t) where
+    is_short : short_step s ≡ (if is_digit (get_or t 0 0) && eqb (get_or t 1 0) 10 then Some (get_or t 0 0 - 48) else None)
+    unfolding short_step
+    is_short = rw (le-leb 7 (length s) (omega arith), tested step_word s true there, at_rest 0, at_rest 1)
 
-  pub digit_there : not (b && d && eqb (get_or s 6 0) 10) ≡ false → (48 ≤ get_or s 5 0) × (get_or s 5 0 ≤ 57)
-  digit_there h = digit_bounds (get_or s 5 0) (sym pd ∙ (and₃ b d (eqb (get_or s 6 0) 10) (not-false (b && d && eqb (get_or s 6 0) 10) h)).1)
+    pub short_other : (d : Bool) → d ≡ is_digit (get_or t 0 0) → d && eqb (get_or t 1 0) 10 ≡ false → None ≡ short_step s
+    short_other d e h = sym (is_short ∙ rw (← e, h))
+
+    pub short_so : is_digit (get_or t 0 0) ≡ true → get_or t 1 0 ≡ 10 → Some (get_or t 0 0 - 48) ≡ short_step s
+    short_so d n = sym (is_short ∙ rw (d, eq-eqb (get_or t 1 0) 10 n))
 
 -- a digit is a number, written
 one_written : (d : ℕ) → d ≤ 9 → decimal d ≡ (48 + d) ∷ []
 unfolding decimal digits_before
 one_written d l = rw (le-ltb 9 d l)
 
-step_read : (d : ℕ) → d ≤ 9 → command_of (step_word ++ (48 + d) ∷ []) ≡ Step d
+step_read : (d : ℕ) → d ≤ 9 → command_of (step_word ++ (48 + d) ∷ []) ≡ Some (Step d)
 unfolding line_of
 step_read d l = ap (λ (s : List ℕ). command_of (step_word ++ s)) (sym (one_written d l)) ∙ round_trip (Step d) (omega arith)
-
-is_core : (a d : ℕ) → ◌≡◌ {A = Number} (Is a) (Is d) → a ≡ d
-is_core a d e = ap number e
-  where
-    number : Number → ℕ
-    number Wrong = 0
-    number (Is n) = n
 
 pub short_steps : ShortSteps
 unfolding short_step
 short_steps s core h = go (begins_short_step s) refl h
   where
-    go : (t : Bool) → begins_short_step s ≡ t → (if t then Is (get_or s 5 0 - 48) else Wrong) ≡ Is core → ShortStep s core
+    go : (t : Bool) → begins_short_step s ≡ t → (if t then Some (get_or s 5 0 - 48) else None) ≡ Some core → ShortStep s core
     go true e h =
         let x = shape s e in
         let b = digit_bounds (get_or s 5 0) x.0 in
-        let c = is_core (get_or s 5 0 - 48) core h in
+        let c = same_Some (get_or s 5 0 - 48) core h in
         let f : get_or s 5 0 ≡ 48 + core = omega (arith, b, c) in
         record {
           one_digit = omega (arith, b, c);
           line = x.1 ∙ ap (λ (n : ℕ). step_word ++ n ∷ newline ∷ drop 7 s) f;
           command = step_read core (omega (arith, b, c));
         }
-    go false e h = absurd (wrong h)
-      where
-        wrong : ◌≡◌ {A = Number} Wrong (Is core) → ⊥
-        wrong p = let q : ◌≡◌ {A = ℕ} 0 1 = ap which p in omega (arith, q)
-          where
-            which : Number → ℕ
-            which Wrong = 0
-            which (Is n) = 1
+    go false e h = absurd (cc)

@@ -4,7 +4,8 @@ use Rattle.std.proofs.Common.{if◌then◌else◌}
 use mathlib.Core.Path.{◌≡◌, refl, ap, ◌∙◌, sym}
 use mathlib.Core.Bool.{Bool, true, false}
 use mathlib.Core.List.{List, [], ◌∷◌, ◌++◌, append_assoc}
-use Prim.Native.Nat.{ℕ, zero, suc, ◌+◌, ◌-◌, ◌/◌, ◌%◌, ◌≤◌, ◌<◌}
+use Prim.Native.Nat.{ℕ, zero, suc, ◌+◌, ◌-◌, ◌*◌, ◌/◌, ◌%◌, ◌^◌, ◌≤◌, ◌<◌}
+use native.Mathlib.Nat.{pow-succ'}
 use native.Mathlib.Numerals.{add-one}
 use native.Mathlib.Omega.{arith}
 use lib.ListN.{length, take, drop, set, length-set, length-append}
@@ -60,10 +61,14 @@ one_some n = go (leb n 9) refl
     go true e = let h = one_in_all n (leb-true n 9 e) in omega arith
     go false e = let h = one_more n (leb-false n 9 e) in omega arith
 
-pub four_more : (n : ℕ) → 9999 < n → length (decimal n) ≡ 4 + length (decimal (n / 10000))
-four_more n l =
-    let e : n / 10 / 10 / 10 / 10 ≡ n / 10000 = omega arith in
-    one_more n (omega arith) ∙ rw (one_more (n / 10) (omega arith), one_more (n / 10 / 10) (omega arith), one_more (n / 10 / 10 / 10) (omega arith), e) (omega arith)
+-- by its powers of ten
+pub digits_by_tens : (k n : ℕ) → 10 ^ k ≤ n → n < 10 * 10 ^ k → length (decimal n) ≡ 1 + k
+digits_by_tens zero n low high = one_in_all n (omega (arith, high))
+digits_by_tens (suc k) n low high =
+    let p = pow-succ' 10 k in
+    let rest = digits_by_tens k (n / 10) (omega (arith, p, low)) (omega (arith, p, high)) in
+    let more = one_more n (omega (arith, p, low, high)) in
+    omega (arith, rest, more)
 
 -- a text whose last byte stands in its place already
 put_last : (s : List ℕ) (x at : ℕ) (out : List ℕ) → at + length s < length out → put_in (s ++ x ∷ []) at out ≡ put_in s at (set out (at + length s) x)
@@ -99,31 +104,26 @@ writing_on number at out₀ left to out w l =
       gives = rw e (sym (put_last (decimal (left / 10)) (48 + left % 10) at out r)) ∙ ap (λ (s : List ℕ). put_in s at out) (sym (decimal_on left l)) ∙ w.gives;
     }
 
--- two at a time
-pub writing_on_two : (number at : ℕ) (out₀ : List ℕ) (left to : ℕ) (out : List ℕ) → Writing number at out₀ left to out → 99 < left → Writing number at out₀ (left / 100) (to - 2) (set (set out (to - 1) (48 + left % 100 % 10)) (to - 2) (48 + left % 100 / 10))
-writing_on_two number at out₀ left to out w l =
-    let n : left / 10 / 10 ≡ left / 100 = omega arith in
-    let t : to - 1 - 1 ≡ to - 2 = omega arith in
-    let low : left % 100 % 10 ≡ left % 10 = omega arith in
-    let high : left % 100 / 10 ≡ left / 10 % 10 = omega arith in
-    rw (low, high, ← n, ← t) (writing_on number at out₀ (left / 10) (to - 1) (set out (to - 1) (48 + left % 10)) (writing_on number at out₀ left to out w (omega arith)) (omega arith))
+-- more than one digit is left exactly where more than one place is
+pub several_left : (number at : ℕ) (out₀ : List ℕ) (left to : ℕ) (out : List ℕ) → Writing number at out₀ left to out → at + 1 < to → 9 < left
+several_left number at out₀ left to out w h = go (leb left 9) refl
+  where
+    go : (t : Bool) → leb left 9 ≡ t → 9 < left
+    go true e = absurd (let one = one_in_all left (leb-true left 9 e) in let ends = w.ends in omega arith)
+    go false e = leb-false left 9 e
 
-pub two_left : (number at : ℕ) (out₀ : List ℕ) (left to : ℕ) (out : List ℕ) → Writing number at out₀ left to out → 99 < left → 2 ≤ to
-two_left number at out₀ left to out w l = let e = w.ends in let k = one_more left (omega arith) in let m = one_more (left / 10) (omega arith) in omega arith
+pub one_left : (number at : ℕ) (out₀ : List ℕ) (left to : ℕ) (out : List ℕ) → Writing number at out₀ left to out → to ≤ at + 1 → left ≤ 9
+one_left number at out₀ left to out w h = go (leb left 9) refl
+  where
+    go : (t : Bool) → leb left 9 ≡ t → left ≤ 9
+    go true e = leb-true left 9 e
+    go false e = absurd (let more = one_more left (leb-false left 9 e) in let some = one_some (left / 10) in let ends = w.ends in omega arith)
 
 pub writing_ends : (number at : ℕ) (out₀ : List ℕ) (left to : ℕ) (out : List ℕ) → Writing number at out₀ left to out → left ≤ 9 → set out at (48 + left) ≡ put_in (decimal number) at out₀
 writing_ends number at out₀ left to out w l =
     let n = one_in_all left l in
     let h : at < length out = let e = w.ends in let r = w.room in omega arith in
     set_split out at (48 + left) h ∙ sym (rw (one_digit left l, add-one) (append_assoc (take at out) ((48 + left) ∷ []) (drop (suc at) out))) ∙ w.gives
-
-pub writing_ends_two : (number at : ℕ) (out₀ : List ℕ) (left to : ℕ) (out : List ℕ) → Writing number at out₀ left to out → 9 < left → left ≤ 99 → set (set out (at + 1) (48 + left % 10)) at (48 + left / 10) ≡ put_in (decimal number) at out₀
-writing_ends_two number at out₀ left to out w l h =
-    let e : to - 1 ≡ at + 1 = let e = w.ends in let k = one_more left l in let m = one_in_all (left / 10) (omega arith) in omega arith in
-    rw (← e) (writing_ends number at out₀ (left / 10) (to - 1) (set out (to - 1) (48 + left % 10)) (writing_on number at out₀ left to out w l) (omega arith))
-
-pub two_ends : (number at : ℕ) (out₀ : List ℕ) (left to : ℕ) (out : List ℕ) → Writing number at out₀ left to out → 9 < left → at + 1 < length out
-two_ends number at out₀ left to out w l = let e = w.ends in let r = w.room in let k = one_more left l in let m = one_some (left / 10) in omega arith
 
 pub one_ends : (number at : ℕ) (out₀ : List ℕ) (left to : ℕ) (out : List ℕ) → Writing number at out₀ left to out → at < length out
 one_ends number at out₀ left to out w = let e = w.ends in let r = w.room in let m = one_some left in omega arith

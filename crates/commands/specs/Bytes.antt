@@ -10,6 +10,9 @@ begins (w ∷ word) (b ∷ s) = eqb b w && begins word s
 abbrev pub space : ℕ
 space = 32
 
+abbrev pub is_space : ℕ → Bool
+is_space b = eqb b space
+
 -- the first field: what stands before the first space
 unfoldable pub first_field : List ℕ → List ℕ
 first_field [] = []
@@ -24,11 +27,6 @@ more_fields (b ∷ s) = if eqb b space then true else more_fields s
 unfoldable pub after_field : List ℕ → List ℕ
 after_field [] = []
 after_field (b ∷ s) = if eqb b space then s else after_field s
-
--- a field ends here: a space stands here, or nothing
-unfoldable pub field_ends : List ℕ → Bool
-field_ends [] = true
-field_ends (b ∷ s) = eqb b space
 
 -- the bytes with a text put in at a place
 abbrev pub put_in : List ℕ → ℕ → List ℕ → List ℕ

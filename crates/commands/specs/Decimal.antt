@@ -1,8 +1,6 @@
 -- Document 01, "Script program": "decimal numbers 0..4,294,967,295 without needless zeros".
-use Rattle.std.specs.Prelude.{ℕ, zero, suc, ◌+◌, ◌*◌, ◌-◌, ◌/◌, ◌%◌, Bool, true, not, ◌&&◌, List, [], ◌∷◌, length, get_or, drop, leb, ltb, eqb, if◌then◌else◌}
+use Rattle.std.specs.Prelude.{ℕ, zero, suc, ◌+◌, ◌*◌, ◌-◌, ◌/◌, ◌%◌, Bool, true, not, ◌&&◌, Option, Some, None, List, [], ◌∷◌, length, get_or, leb, ltb, eqb, if◌then◌else◌}
 use Rattle.commands.specs.Bytes.{first_field, more_fields}
-use Rattle.commands.specs.declared.decimal.Number.{Number}
-use Rattle.commands.specs.declared.decimal.Number.TheVariants.{Wrong, Is}
 use Rattle.commands.specs.declared.decimal.Field.{Field}
 
 abbrev pub largest : ℕ
@@ -25,21 +23,21 @@ value_from v [] = v
 value_from v (b ∷ s) = value_from (10 * v + digit_of b) s
 
 -- a needless zero: the first of several digits is 0
-abbrev pub number_from : ℕ → Bool → Bool → ℕ → Number
+abbrev pub number_from : ℕ → Bool → Bool → ℕ → Option ℕ
 number_from count digits zeroFirst value =
-    if not (eqb count 0) && digits && not (ltb 1 count && zeroFirst) && leb value largest then Is value else Wrong
+    if not (eqb count 0) && digits && not (ltb 1 count && zeroFirst) && leb value largest then Some value else None
 
--- what a field says
-unfoldable pub number_in : List ℕ → Number
+-- the number that a field says, if it says one
+unfoldable pub number_in : List ℕ → Option ℕ
 number_in s = number_from (length s) (all_digits s) (eqb (get_or s 0 0) 48) (value_from 0 s)
 
--- the field that begins at a place of a line
-unfoldable pub next_place : List ℕ → ℕ → ℕ
-next_place s from = from + length (first_field s) + (if more_fields s then 1 else 0)
+-- where the next field begins, if one follows
+abbrev pub next_field : List ℕ → Option ℕ
+next_field s = if more_fields s then Some (length (first_field s) + 1) else None
 
-unfoldable pub field_of : List ℕ → ℕ → Field
-field_of line from =
-    record { number = number_in (first_field (drop from line)); more = more_fields (drop from line); next = next_place (drop from line) from }
+-- the first field of a line
+unfoldable pub field_of : List ℕ → Field
+field_of s = record { number = number_in (first_field s); next = next_field s }
 
 -- a number's digits before what follows them; a number has no more digits than the turns given
 unfoldable pub digits_before : ℕ → ℕ → List ℕ → List ℕ

@@ -1,10 +1,12 @@
 -- What a line of script promises, beside what each call's contract says of it. The proofs are in proofs/Handed, ReadBack, ShortSteps, OneLine, Answers, Numbered and Begun, under these names: FirstBytesDecide is proved by first_bytes_decide.
-use Rattle.std.specs.Prelude.{ℕ, ◌+◌, ◌≤◌, ◌<◌, ◌≡◌, Bool, true, false, List, [], ◌∷◌, ◌++◌, length, take, drop, replicate}
-use Rattle.rules.specs.Answers.{number_of, values_of}
+use Rattle.std.specs.Prelude.{ℕ, ◌+◌, ◌≤◌, ◌<◌, ◌≡◌, Bool, true, false, Option, Some, None, Result, Ok, List, [], ◌∷◌, ◌++◌, length, take, drop, replicate}
+use Rattle.rules.specs.Refusals.{number_in}
+use Rattle.rules.specs.Answers.{values_of}
 use Rattle.rules.specs.Calls.{all_idle}
 use Rattle.rules.specs.declared.answers.Answer.{Answer}
 use Rattle.rules.specs.declared.answers.Answer.TheVariants.{Ready}
-use Rattle.rules.specs.declared.answers.Handed.TheVariants.{Nothing}
+use Rattle.rules.specs.declared.refusals.Refusal.{Refusal}
+use Rattle.rules.specs.declared.refusals.Refusal.TheVariants.{NotUnderstood, NoMachine}
 use Rattle.rules.specs.declared.answers.Operation.{Operation}
 use Rattle.rules.specs.declared.answers.Operation.TheVariants.{Load, Ll, Store, Sc}
 use Rattle.commands.specs.Bytes.{first_field, more_fields, after_field}
@@ -12,9 +14,8 @@ use Rattle.commands.specs.Decimal.{decimal}
 use Rattle.commands.specs.Grammar.{step_word, command_of, short_step, line_of}
 use Rattle.commands.specs.Effect.{stands, After, after, running, refused_ran, new_of, run_line}
 use Rattle.commands.specs.Texts.{words_of, newline, line_room, answer_line, line_number, counted_on, digits_of}
-use Rattle.commands.specs.declared.decimal.Number.TheVariants.{Is}
 use Rattle.commands.specs.declared.grammar.Command.{Command}
-use Rattle.commands.specs.declared.grammar.Command.TheVariants.{NotUnderstood, New, NewWith, Give, Step, Poke, Show}
+use Rattle.commands.specs.declared.grammar.Command.TheVariants.{New, Give, Step, Poke, Show}
 use Rattle.commands.specs.declared.effect.Session.{Session}
 
 -- "at most 80 bytes before the newline": a longer line is the same line for the rules as its first 81 bytes
@@ -32,11 +33,10 @@ SmallOperation (Ll a) = Small a.0
 SmallOperation (Store a v) = Small a.0 × Small v
 SmallOperation (Sc a v) = Small a.0 × Small v
 
--- a command that is understood, with numbers that can be written
+-- a command with numbers that can be written
 abbrev pub Writable : Command → Type 0
-Writable NotUnderstood = ⊥
-Writable (New cores bytes) = Small cores × Small bytes
-Writable (NewWith cores bytes entries) = Small cores × Small bytes × Small entries
+Writable (New cores bytes None) = Small cores × Small bytes
+Writable (New cores bytes (Some entries)) = Small cores × Small bytes × Small entries
 Writable (Give core operation) = Small core × SmallOperation operation
 Writable (Step core) = Small core
 Writable (Poke a v) = Small a.0 × Small v
@@ -44,35 +44,35 @@ Writable (Show a) = Small a.0
 
 -- a command that is written and read is the same command
 abbrev pub RoundTrip : Type 0
-RoundTrip = (c : Command) → Writable c → command_of (line_of c) ≡ c
+RoundTrip = (c : Command) → Writable c → command_of (line_of c) ≡ Some c
 
 -- bytes that begin with a step of one digit and its newline: that line's command
 pub record ShortStep (s : List ℕ) (core : ℕ) : Type 0 where
   pub one_digit : core ≤ 9
   pub line : s ≡ step_word ++ (48 + core) ∷ newline ∷ drop 7 s
-  pub command : command_of (step_word ++ (48 + core) ∷ []) ≡ Step core
+  pub command : command_of (step_word ++ (48 + core) ∷ []) ≡ Some (Step core)
 
 abbrev pub ShortSteps : Type 0
-ShortSteps = (s : List ℕ) (core : ℕ) → short_step s ≡ Is core → ShortStep s core
+ShortSteps = (s : List ℕ) (core : ℕ) → short_step s ≡ Some core → ShortStep s core
 
 -- a line that is understood is the line of its command
 abbrev pub UnderstoodIsWritten : Type 0
-UnderstoodIsWritten = (line : List ℕ) → (command_of line ≡ NotUnderstood → ⊥) → line ≡ line_of (command_of line)
+UnderstoodIsWritten = (line : List ℕ) (c : Command) → command_of line ≡ Some c → line ≡ line_of c
 
 -- "without needless zeros", "single spaces": two different lines are never the same command
 abbrev pub OnlyOne : Type 0
-OnlyOne = (line other : List ℕ) → command_of line ≡ command_of other → (command_of line ≡ NotUnderstood → ⊥) → line ≡ other
+OnlyOne = (line other : List ℕ) → command_of line ≡ command_of other → (command_of line ≡ None → ⊥) → line ≡ other
 
 -- "line number from 1, answer number, then" words, with single spaces between them and a newline at the end
-pub record AnswerParts (number : ℕ) (answer : Answer) : Type 0 where
+pub record AnswerParts (number : ℕ) (answer : Result Answer Refusal) : Type 0 where
   pub number_first : first_field (answer_line number answer) ≡ decimal number
   pub then_answer : more_fields (answer_line number answer) ≡ true
-  pub answer_number : first_field (after_field (answer_line number answer)) ≡ decimal (number_of answer)
+  pub answer_number : first_field (after_field (answer_line number answer)) ≡ decimal (number_in answer)
   pub then_words : more_fields (after_field (answer_line number answer)) ≡ true
   pub words : after_field (after_field (answer_line number answer)) ≡ words_of answer ++ newline ∷ []
 
 abbrev pub AnswerReads : Type 0
-AnswerReads = (number : ℕ) (answer : Answer) → AnswerParts number answer
+AnswerReads = (number : ℕ) (answer : Result Answer Refusal) → AnswerParts number answer
 
 abbrev pub AllSmall : List ℕ → Type 0
 AllSmall [] = Unit
@@ -81,7 +81,7 @@ AllSmall (n ∷ s) = Small n × AllSmall s
 -- the room for an answer line is enough for each that the code can write: a u64 line number, a u32 answer number, u32 values
 abbrev pub AnswerFits : Type 0
 AnswerFits =
-    (number : ℕ) (answer : Answer) → number < 18446744073709551616 → Small (number_of answer) → AllSmall (values_of answer) → length (answer_line number answer) ≤ line_room
+    (number : ℕ) (answer : Result Answer Refusal) → number < 18446744073709551616 → Small (number_in answer) → AllSmall (values_of answer) → length (answer_line number answer) ≤ line_room
 
 -- a line's number is written in its own digits, which are kept from a line to the next
 abbrev pub DigitsAre : Type 0
@@ -93,7 +93,7 @@ CountsOn = (number : ℕ) → counted_on (line_number number) (number + 1) ≡ l
 -- a machine, its memory and its table are as they were, and nothing was made
 pub record Kept (session : Session) (memory owners holders : List ℕ) (a : After) : Type 0 where
   pub same_session : a.ran.session ≡ session
-  pub nothing_made : a.ran.made ≡ Nothing
+  pub nothing_made : a.ran.made ≡ None
   pub same_memory : a.memory ≡ memory
   pub same_owners : a.owners ≡ owners
   pub same_holders : a.holders ≡ holders
@@ -102,12 +102,12 @@ pub record Kept (session : Session) (memory owners holders : List ℕ) (a : Afte
 abbrev pub RefusedNewLeaves : Type 0
 RefusedNewLeaves =
     (session : Session) (memory owners holders : List ℕ) (cores bytes entries : ℕ)
-    → (number_of (new_of session memory owners holders cores bytes entries).ran.answer ≡ 0 → ⊥)
+    → (number_in (new_of session memory owners holders cores bytes entries).ran.answer ≡ 0 → ⊥)
     → Kept session memory owners holders (new_of session memory owners holders cores bytes entries)
 
 -- a new machine: all its cores idle, its memory and table 0; the rest of what is lent as before
 pub record Afresh (memory owners holders : List ℕ) (cores bytes entries : ℕ) (a : After) : Type 0 where
-  pub ready : a.ran.answer ≡ Ready
+  pub ready : a.ran.answer ≡ Ok Ready
   pub runs : a.ran.session ≡ running (all_idle cores bytes entries)
   pub new_memory : a.memory ≡ replicate bytes 0 ++ drop bytes memory
   pub new_owners : a.owners ≡ replicate entries 0 ++ drop entries owners
@@ -117,24 +117,23 @@ pub record Afresh (memory owners holders : List ℕ) (cores bytes entries : ℕ)
 abbrev pub AcceptedNewStartsAfresh : Type 0
 AcceptedNewStartsAfresh =
     (session : Session) (memory owners holders : List ℕ) (cores bytes entries : ℕ)
-    → number_of (new_of session memory owners holders cores bytes entries).ran.answer ≡ 0
+    → number_in (new_of session memory owners holders cores bytes entries).ran.answer ≡ 0
     → Afresh memory owners holders cores bytes entries (new_of session memory owners holders cores bytes entries)
 
 -- `new CORES BYTES [ENTRIES]`
-abbrev pub is_new : Command → Bool
-is_new NotUnderstood = false
-is_new (New cores bytes) = true
-is_new (NewWith cores bytes entries) = true
-is_new (Give core operation) = false
-is_new (Step core) = false
-is_new (Poke a v) = false
-is_new (Show a) = false
+abbrev pub is_new : Option Command → Bool
+is_new None = false
+is_new (Some (New cores bytes entries)) = true
+is_new (Some (Give core operation)) = false
+is_new (Some (Step core)) = false
+is_new (Some (Poke a v)) = false
+is_new (Some (Show a)) = false
 
 -- "script 9, 10": a line that is not understood is answered 9 whether or not a machine stands; any other but a `new` is answered 10 where none stands
 pub record NineThenTen (session : Session) (memory owners holders line : List ℕ) : Type 0 where
-  pub nine : command_of line ≡ NotUnderstood → run_line session memory owners holders line ≡ after (refused_ran 9 session) memory owners holders
-  pub ten : stands session ≡ false → (command_of line ≡ NotUnderstood → ⊥) → is_new (command_of line) ≡ false
-      → run_line session memory owners holders line ≡ after (refused_ran 10 session) memory owners holders
+  pub nine : command_of line ≡ None → run_line session memory owners holders line ≡ after (refused_ran NotUnderstood session) memory owners holders
+  pub ten : stands session ≡ false → (command_of line ≡ None → ⊥) → is_new (command_of line) ≡ false
+      → run_line session memory owners holders line ≡ after (refused_ran NoMachine session) memory owners holders
 
 abbrev pub NineBeforeTen : Type 0
 NineBeforeTen = (session : Session) (memory owners holders line : List ℕ) → NineThenTen session memory owners holders line

@@ -1,8 +1,9 @@
 -- Document 01, "Script program": "Each output line: line number from 1, answer number, then" words.
-use Rattle.std.specs.Prelude.{ℕ, ◌+◌, ◌/◌, ◌%◌, ◌≤◌, ◌≡◌, Bool, ◌&&◌, List, [], ◌∷◌, ◌++◌, length, take, replicate, leb, ltb, if◌then◌else◌}
-use Rattle.rules.specs.Answers.{number_of}
+use Rattle.std.specs.Prelude.{ℕ, ◌+◌, ◌/◌, ◌%◌, ◌≤◌, ◌≡◌, Bool, ◌&&◌, Result, Ok, Err, List, [], ◌∷◌, ◌++◌, length, take, replicate, leb, ltb, if◌then◌else◌}
+use Rattle.rules.specs.Refusals.{number_in}
 use Rattle.rules.specs.declared.answers.Answer.{Answer}
-use Rattle.rules.specs.declared.answers.Answer.TheVariants.{Refused, Ready, Taken, Moved, Waits, Load, Ll, Store, Sc, Poked, Word}
+use Rattle.rules.specs.declared.answers.Answer.TheVariants.{Ready, Taken, Moved, Waits, Load, Ll, Store, Sc, Poked, Word}
+use Rattle.rules.specs.declared.refusals.Refusal.{Refusal}
 use Rattle.commands.specs.Bytes.{space, put_in}
 use Rattle.commands.specs.Decimal.{decimal}
 use Rattle.commands.specs.declared.text.LineNumber.{LineNumber}
@@ -41,18 +42,18 @@ abbrev pub word_text : List ℕ
 word_text = 119 ∷ 111 ∷ 114 ∷ 100 ∷ 32 ∷ []
 
 -- "`refused`, `ready`, `taken`, `moved`, `waits`, `load V`, `ll V`, `store`, `sc V`, `poked` or `word V`"
-unfoldable pub words_of : Answer → List ℕ
-words_of (Refused n) = refused_text
-words_of Ready = ready_text
-words_of Taken = taken_text
-words_of Moved = moved_text
-words_of Waits = waits_text
-words_of (Load v) = load_text ++ decimal v
-words_of (Ll v) = ll_text ++ decimal v
-words_of Store = store_text
-words_of (Sc v) = sc_text ++ decimal v
-words_of Poked = poked_text
-words_of (Word v) = word_text ++ decimal v
+unfoldable pub words_of : Result Answer Refusal → List ℕ
+words_of (Err refusal) = refused_text
+words_of (Ok Ready) = ready_text
+words_of (Ok Taken) = taken_text
+words_of (Ok Moved) = moved_text
+words_of (Ok Waits) = waits_text
+words_of (Ok (Load v)) = load_text ++ decimal v
+words_of (Ok (Ll v)) = ll_text ++ decimal v
+words_of (Ok Store) = store_text
+words_of (Ok (Sc v)) = sc_text ++ decimal v
+words_of (Ok Poked) = poked_text
+words_of (Ok (Word v)) = word_text ++ decimal v
 
 abbrev pub newline : ℕ
 newline = 10
@@ -61,11 +62,11 @@ abbrev pub number_text : ℕ → List ℕ
 number_text n = decimal n ++ space ∷ []
 
 -- what follows a line's number: the answer's number, its words and a newline
-unfoldable pub rest_of : Answer → List ℕ
-rest_of answer = space ∷ number_text (number_of answer) ++ words_of answer ++ newline ∷ []
+unfoldable pub rest_of : Result Answer Refusal → List ℕ
+rest_of answer = space ∷ number_text (number_in answer) ++ words_of answer ++ newline ∷ []
 
 -- a line whose number is written in these digits
-unfoldable pub line_text : List ℕ → Answer → List ℕ
+unfoldable pub line_text : List ℕ → Result Answer Refusal → List ℕ
 line_text digits answer = digits ++ rest_of answer
 
 -- no line is longer: 20 and 10 digits, a word and its value of 15 bytes, two spaces and the newline
@@ -73,20 +74,20 @@ abbrev pub line_room : ℕ
 line_room = 48
 
 -- that line put in at a place, where there is room for the longest, and where it ends
-abbrev pub line_put : List ℕ → Answer → List ℕ → ℕ → List ℕ
+abbrev pub line_put : List ℕ → Result Answer Refusal → List ℕ → ℕ → List ℕ
 line_put digits answer out at = if leb (at + line_room) (length out) then put_in (line_text digits answer) at out else out
 
-abbrev pub line_end : List ℕ → Answer → ℕ → ℕ → ℕ
+abbrev pub line_end : List ℕ → Result Answer Refusal → ℕ → ℕ → ℕ
 line_end digits answer lent at = if leb (at + line_room) lent then at + length (line_text digits answer) else at
 
 -- the same of a number, in its own digits
-abbrev pub answer_line : ℕ → Answer → List ℕ
+abbrev pub answer_line : ℕ → Result Answer Refusal → List ℕ
 answer_line number answer = line_text (decimal number) answer
 
-abbrev pub answer_put : ℕ → Answer → List ℕ → ℕ → List ℕ
+abbrev pub answer_put : ℕ → Result Answer Refusal → List ℕ → ℕ → List ℕ
 answer_put number answer out at = line_put (decimal number) answer out at
 
-abbrev pub answer_end : ℕ → Answer → ℕ → ℕ → ℕ
+abbrev pub answer_end : ℕ → Result Answer Refusal → ℕ → ℕ → ℕ
 answer_end number answer lent at = line_end (decimal number) answer lent at
 
 -- a number below 100 in two digits

@@ -1,24 +1,22 @@
 // The machine that the lines run on, and how a `new` begins one.
-ghost use Rattle.std.specs.Prelude.{◌≡◌, ◌≤◌, length, leb, if◌then◌else◌};
-ghost use Rattle.commands.specs.Effect.{after, no_machine, refused_ran, begun_by, started_ran, new_of};
+ghost use Rattle.std.specs.Prelude.{◌≡◌};
+ghost use Rattle.commands.specs.Effect.{after, no_machine, refused_ran, ran_of, started_ran, new_of};
 ghost use Rattle.commands.specs.Turns.{set_up};
 
 use crate::grammar::Command;
-use machine::{Answer, Called, Handed, Machine};
+use machine::{Answer, Called, Machine, Record, Refusal};
 
-// The machine that the lines run on: `begun` is 0 before the first accepted `new`, and then 1. It is a whole
-// word, since with a bool before it a machine is copied as an odd number of bytes, which costs more.
+// The machine that the lines run on: none before the first accepted `new`.
 #[derive(Clone, Copy)]
 pub struct Session {
-    pub begun: u64,
-    pub machine: Machine,
+    pub machine: Option<Machine>,
 }
 
 // What a line answers, the record that it makes, if it makes one, and what it leaves.
 #[derive(Clone, Copy)]
 pub struct Ran {
-    pub answer: Answer,
-    pub made: Handed,
+    pub answer: Result<Answer, Refusal>,
+    pub made: Option<Record>,
     pub session: Session,
 }
 
@@ -26,26 +24,25 @@ pub struct Ran {
 const USUAL_ENTRIES: u32 = 64;
 
 impl Ran {
-    fn refused(number: u32, session: Session) -> Ran
-        ensures { result ≡ refused_ran number session }
+    fn refused(refusal: Refusal, session: Session) -> Ran
+        ensures { result ≡ refused_ran refusal session }
     {
         Ran {
-            answer: Answer::Refused(number),
-            made: Handed::Nothing,
+            answer: Err(refusal),
+            made: None,
             session,
         }
     }
 
-    fn begun_by(called: Called) -> Ran
-        ensures { result ≡ begun_by called }
+    fn of(called: Called) -> Ran
+        ensures { result ≡ ran_of called }
     {
-        let answer = called.answer;
-        let made = called.made;
-        let machine = called.machine;
-        let session = Session { begun: 1, machine };
+        let session = Session {
+            machine: Some(called.machine),
+        };
         Ran {
-            answer,
-            made,
+            answer: called.answer,
+            made: called.made,
             session,
         }
     }
@@ -54,15 +51,13 @@ impl Ran {
     fn started(session: Session, called: Called) -> Ran
         ensures { result ≡ started_ran session called }
     {
-        let answer = called.answer;
-        if answer.number() == 0 {
-            return Ran::begun_by(called);
-        }
-        let made = called.made;
-        Ran {
-            answer,
-            made,
-            session,
+        match called.answer {
+            Ok(_) => Ran::of(called),
+            Err(_) => Ran {
+                answer: called.answer,
+                made: called.made,
+                session,
+            },
         }
     }
 }
@@ -71,20 +66,7 @@ impl Ran {
 pub fn no_machine() -> Session
     ensures { result ≡ no_machine }
 {
-    let mut none = [0u8; 0];
-    let mut owners = [0u8; 0];
-    let mut holders = [0u8; 0];
-    let called = machine::start(0, &mut none, &mut owners, &mut holders);
-    let machine = called.machine;
-    Session { begun: 0, machine }
-}
-
-// How much of what is lent a machine uses: no more than there is.
-pub(crate) fn used(size: usize, lent: usize) -> usize
-    ensures value { result ≡ (if leb size lent then size else lent) }
-    ensures upper_bound { result ≤ lent }
-{
-    if size <= lent { size } else { lent }
+    Session { machine: None }
 }
 
 // `new CORES BYTES ENTRIES`
@@ -103,7 +85,7 @@ fn begin(
     let e = entries as usize;
     let tables = (e <= owners.len()) & (e <= holders.len());
     if !((b <= 16384) & (b <= memory.len()) & tables) {
-        return Ran::refused(4, session);
+        return Ran::refused(Refusal::LentLengths, session);
     }
     let called = machine::start(
         cores as usize,
@@ -122,27 +104,28 @@ pub fn set_up(
     memory: &mut [u8],
     owners: &mut [u8],
     holders: &mut [u8],
-    command: Command,
+    command: Option<Command>,
 ) -> Ran
     ensures { after result memory.new owners.new holders.new ≡ set_up session memory.old owners.old holders.old command }
 {
     match command {
-        Command::NotUnderstood => Ran::refused(9, session),
-        Command::New(cores, bytes) => begin(
+        None => Ran::refused(Refusal::NotUnderstood, session),
+        Some(
+            Command::New {
+                cores,
+                bytes,
+                entries,
+            },
+        ) => begin(
             session,
             memory,
             owners,
             holders,
             cores,
             bytes,
-            USUAL_ENTRIES,
+            entries.unwrap_or(USUAL_ENTRIES),
         ),
-        Command::NewWith(cores, bytes, entries) => begin(
-            session, memory, owners, holders, cores, bytes, entries,
-        ),
-        Command::Give(_, _) => Ran::refused(10, session),
-        Command::Step(_) => Ran::refused(10, session),
-        Command::Poke(_, _) => Ran::refused(10, session),
-        Command::Show(_) => Ran::refused(10, session),
+        Some(Command::Give(_, _) | Command::Step(_) | Command::Poke(_, _) | Command::Show(_)) =>
+            Ran::refused(Refusal::NoMachine, session),
     }
 }

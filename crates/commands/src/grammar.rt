@@ -1,29 +1,29 @@
 // The grammar: what command a line is.
-ghost use Rattle.std.specs.Prelude.{◌≡◌, ◌≤◌, length, drop};
-ghost use Rattle.commands.specs.declared.grammar.Command.TheVariants.{Show, Poke};
+ghost use Rattle.std.specs.Prelude.{◌≡◌, option_and_then};
 ghost use Rattle.commands.specs.Grammar.{
   numbers_of,
-  new_command,
+  address_of,
+  address_and_value_of,
   step_command,
-  with_address,
-  with_value,
+  new_command,
+  operation_of,
   give_command,
-  operation_command,
   too_long,
   command_of,
   short_step,
 };
 
-use crate::bytes::begins;
-use crate::decimal::{Number, field_at, is_digit};
+use crate::decimal::field_of;
 use machine::{GuestAddress, Operation};
 
 // A line that is understood says one of these. An entry count that is left out stays left out.
 #[derive(Clone, Copy)]
 pub enum Command {
-    NotUnderstood,
-    New(u32, u32),
-    NewWith(u32, u32, u32),
+    New {
+        cores: u32,
+        bytes: u32,
+        entries: Option<u32>,
+    },
     Give(u32, Operation),
     Step(u32),
     Poke(GuestAddress, u32),
@@ -33,105 +33,111 @@ pub enum Command {
 // One to three numbers, with single spaces between them.
 #[derive(Clone, Copy)]
 pub enum Numbers {
-    Wrong,
     One(u32),
     Two(u32, u32),
     Three(u32, u32, u32),
 }
 
-// The numbers from a place to the end of the line.
-fn numbers_at(line: &[u8], from: usize) -> Numbers
-    requires { from ≤ length line.now }
-    ensures { result ≡ numbers_of (drop from line.now) }
+// The numbers that are the whole of some bytes.
+#[tactic(auto, using(crate::proofs::Lines::numbers_none, crate::proofs::Lines::numbers_one))]
+fn numbers_in(bytes: &[u8]) -> Option<Numbers>
+    ensures { result ≡ numbers_of bytes.now }
 {
-    let first = field_at(line, from);
-    let one = first.number;
-    let Number::Is(a) = one else {
-        return Numbers::Wrong;
+    let first = field_of(bytes);
+    let a = first.number?;
+    let Some(next) = first.next else {
+        return Some(Numbers::One(a));
     };
-    if !first.more {
-        return Numbers::One(a);
-    }
-    let second = field_at(line, first.next);
-    let two = second.number;
-    let Number::Is(b) = two else {
-        return Numbers::Wrong;
+    let bytes = &bytes[next..];
+    let second = field_of(bytes);
+    let b = second.number?;
+    let Some(next) = second.next else {
+        return Some(Numbers::Two(a, b));
     };
-    if !second.more {
-        return Numbers::Two(a, b);
+    let third = field_of(&bytes[next..]);
+    let c = third.number?;
+    match third.next {
+        Some(_) => None,
+        None => Some(Numbers::Three(a, b, c)),
     }
-    let third = field_at(line, second.next);
-    let three = third.number;
-    let Number::Is(c) = three else {
-        return Numbers::Wrong;
+}
+
+fn address_in(bytes: &[u8]) -> Option<GuestAddress>
+    ensures { result ≡ option_and_then address_of (numbers_of bytes.now) }
+{
+    let Numbers::One(a) = numbers_in(bytes)? else {
+        return None;
     };
-    if third.more {
-        return Numbers::Wrong;
-    }
-    Numbers::Three(a, b, c)
+    Some(GuestAddress(a))
+}
+
+fn address_and_value_in(bytes: &[u8]) -> Option<(GuestAddress, u32)>
+    ensures { result ≡ option_and_then address_and_value_of (numbers_of bytes.now) }
+{
+    let Numbers::Two(a, v) = numbers_in(bytes)? else {
+        return None;
+    };
+    Some((GuestAddress(a), v))
 }
 
 // An operation's word, its address and, where it writes, its value.
-fn operation_at(core: u32, line: &[u8], from: usize) -> Command
-    requires { from ≤ length line.now }
-    ensures { result ≡ operation_command core (drop from line.now) }
+fn operation_in(bytes: &[u8]) -> Option<Operation>
+    ensures { result ≡ operation_of bytes.now }
 {
-    if begins(line, from, b"load ") {
-        let Numbers::One(a) = numbers_at(line, from + 5) else {
-            return Command::NotUnderstood;
-        };
-        return Command::Give(core, Operation::Load(GuestAddress(a)));
+    if let Some(rest) = bytes.strip_prefix(b"load ") {
+        return address_in(rest).map(Operation::Load);
     }
-    if begins(line, from, b"ll ") {
-        let Numbers::One(a) = numbers_at(line, from + 3) else {
-            return Command::NotUnderstood;
-        };
-        return Command::Give(core, Operation::Ll(GuestAddress(a)));
+    if let Some(rest) = bytes.strip_prefix(b"ll ") {
+        return address_in(rest).map(Operation::Ll);
     }
-    if begins(line, from, b"store ") {
-        let Numbers::Two(a, v) = numbers_at(line, from + 6) else {
-            return Command::NotUnderstood;
-        };
-        return Command::Give(core, Operation::Store(GuestAddress(a), v));
+    if let Some(rest) = bytes.strip_prefix(b"store ") {
+        return address_and_value_in(rest).map(|(a, v)| Operation::Store(a, v));
     }
-    if begins(line, from, b"sc ") {
-        let Numbers::Two(a, v) = numbers_at(line, from + 3) else {
-            return Command::NotUnderstood;
-        };
-        return Command::Give(core, Operation::Sc(GuestAddress(a), v));
+    if let Some(rest) = bytes.strip_prefix(b"sc ") {
+        return address_and_value_in(rest).map(|(a, v)| Operation::Sc(a, v));
     }
-    Command::NotUnderstood
+    None
 }
 
-fn give_at(line: &[u8], from: usize) -> Command
-    requires { from ≤ length line.now }
-    ensures { result ≡ give_command (drop from line.now) }
+#[tactic(auto, using(crate::proofs::Lines::give_none, crate::proofs::Lines::give_short))]
+fn give_in(bytes: &[u8]) -> Option<Command>
+    ensures { result ≡ give_command bytes.now }
 {
-    let first = field_at(line, from);
-    let one = first.number;
-    let Number::Is(core) = one else {
-        return Command::NotUnderstood;
-    };
-    if !first.more {
-        return Command::NotUnderstood;
-    }
-    operation_at(core, line, first.next)
+    let first = field_of(bytes);
+    let core = first.number?;
+    let next = first.next?;
+    operation_in(&bytes[next..]).map(|operation| Command::Give(core, operation))
 }
 
 // Most lines are steps: their one number is read by itself.
-fn step_at(line: &[u8], from: usize) -> Command
-    requires { from ≤ length line.now }
-    ensures { result ≡ step_command (numbers_of (drop from line.now)) }
+#[tactic(auto, using(crate::proofs::Lines::step_none, crate::proofs::Lines::step_one, crate::proofs::Lines::step_more))]
+fn step_in(bytes: &[u8]) -> Option<Command>
+    ensures { result ≡ option_and_then step_command (numbers_of bytes.now) }
 {
-    let first = field_at(line, from);
-    let one = first.number;
-    let Number::Is(core) = one else {
-        return Command::NotUnderstood;
-    };
-    if first.more {
-        return Command::NotUnderstood;
+    let first = field_of(bytes);
+    let core = first.number?;
+    match first.next {
+        Some(_) => None,
+        None => Some(Command::Step(core)),
     }
-    Command::Step(core)
+}
+
+fn new_in(bytes: &[u8]) -> Option<Command>
+    ensures { result ≡ option_and_then new_command (numbers_of bytes.now) }
+{
+    match numbers_in(bytes)? {
+        Numbers::One(_) => None,
+        Numbers::Two(cores, bytes) => Some(Command::New {
+            cores,
+            bytes,
+            entries: None,
+        }),
+        Numbers::Three(cores, bytes, entries) => Some(Command::New {
+            cores,
+            bytes,
+            entries: Some(entries),
+        }),
+    }
 }
 
 fn too_long(line: &[u8]) -> bool
@@ -140,72 +146,40 @@ fn too_long(line: &[u8]) -> bool
     80 < line.len()
 }
 
-// A command's numbers, by how many they are.
-fn show_command(numbers: Numbers) -> Command
-    ensures { result ≡ with_address Show numbers }
-{
-    let Numbers::One(a) = numbers else {
-        return Command::NotUnderstood;
-    };
-    Command::Show(GuestAddress(a))
-}
-
-fn poke_command(numbers: Numbers) -> Command
-    ensures { result ≡ with_value Poke numbers }
-{
-    let Numbers::Two(a, v) = numbers else {
-        return Command::NotUnderstood;
-    };
-    Command::Poke(GuestAddress(a), v)
-}
-
-fn new_command(numbers: Numbers) -> Command
-    ensures { result ≡ new_command numbers }
-{
-    match numbers {
-        Numbers::Wrong => Command::NotUnderstood,
-        Numbers::One(_) => Command::NotUnderstood,
-        Numbers::Two(cores, bytes) => Command::New(cores, bytes),
-        Numbers::Three(cores, bytes, entries) => Command::NewWith(cores, bytes, entries),
-    }
-}
-
-// The command that a line is.
-pub fn read_line(line: &[u8]) -> Command
+// The command that a line is, if it is understood.
+pub fn read_line(line: &[u8]) -> Option<Command>
     ensures { result ≡ command_of line.now }
 {
     if too_long(line) {
-        return Command::NotUnderstood;
+        return None;
     }
-    if begins(line, 0, b"step ") {
-        return step_at(line, 5);
+    if let Some(rest) = line.strip_prefix(b"step ") {
+        return step_in(rest);
     }
-    if begins(line, 0, b"give ") {
-        return give_at(line, 5);
+    if let Some(rest) = line.strip_prefix(b"give ") {
+        return give_in(rest);
     }
-    if begins(line, 0, b"show ") {
-        return show_command(numbers_at(line, 5));
+    if let Some(rest) = line.strip_prefix(b"show ") {
+        return address_in(rest).map(Command::Show);
     }
-    if begins(line, 0, b"poke ") {
-        return poke_command(numbers_at(line, 5));
+    if let Some(rest) = line.strip_prefix(b"poke ") {
+        return address_and_value_in(rest).map(|(a, v)| Command::Poke(a, v));
     }
-    if begins(line, 0, b"new ") {
-        return new_command(numbers_at(line, 4));
+    if let Some(rest) = line.strip_prefix(b"new ") {
+        return new_in(rest);
     }
-    Command::NotUnderstood
+    None
 }
 
 // The core of a step, where the bytes begin with a step of a core with one digit, and its newline.
-pub fn short_step(bytes: &[u8]) -> Number
+#[tactic(auto, using(crate::proofs::ShortSteps::short_none, crate::proofs::ShortSteps::short_few, crate::proofs::ShortSteps::short_other, crate::proofs::ShortSteps::short_so))]
+pub fn short_step(bytes: &[u8]) -> Option<u32>
     ensures { result ≡ short_step bytes.now }
 {
-    if bytes.len() < 7 {
-        return Number::Wrong;
+    match bytes.strip_prefix(b"step ")? {
+        [digit, newline, ..] if digit.is_ascii_digit() & (*newline == b'\n') => {
+            Some((*digit - b'0') as u32)
+        }
+        _ => None,
     }
-    let digit = bytes[5];
-    let newline = bytes[6] == 10;
-    if !(begins(bytes, 0, b"step ") & is_digit(digit) & newline) {
-        return Number::Wrong;
-    }
-    Number::Is((digit - 48) as u32)
 }

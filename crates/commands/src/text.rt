@@ -17,7 +17,7 @@ ghost use Rattle.commands.specs.Texts.{
 
 use crate::bytes::put;
 use crate::decimal::put_decimal;
-use machine::Answer;
+use machine::{Answer, Refusal, number_of};
 
 // A word, and the value after it.
 fn put_valued(word: &[u8], value: u32, out: &mut [u8], at: usize) -> usize
@@ -31,24 +31,24 @@ fn put_valued(word: &[u8], value: u32, out: &mut [u8], at: usize) -> usize
 }
 
 #[tactic(auto, unfolding(crate::specs::Texts::words_of))]
-fn put_words(answer: Answer, out: &mut [u8], at: usize) -> usize
+fn put_words(answer: Result<Answer, Refusal>, out: &mut [u8], at: usize) -> usize
     requires { at + 15 ≤ length out.old }
     ensures out_after { out.new ≡ put_in (words_of answer) at out.old }
     ensures value { result ≡ at + length (words_of answer) }
     ensures upper_bound { result ≤ at + 15 }
 {
     match answer {
-        Answer::Refused(_) => put(b"refused", out, at),
-        Answer::Ready => put(b"ready", out, at),
-        Answer::Taken => put(b"taken", out, at),
-        Answer::Moved => put(b"moved", out, at),
-        Answer::Waits => put(b"waits", out, at),
-        Answer::Load(v) => put_valued(b"load ", v, out, at),
-        Answer::Ll(v) => put_valued(b"ll ", v, out, at),
-        Answer::Store => put(b"store", out, at),
-        Answer::Sc(v) => put_valued(b"sc ", v, out, at),
-        Answer::Poked => put(b"poked", out, at),
-        Answer::Word(v) => put_valued(b"word ", v, out, at),
+        Err(_) => put(b"refused", out, at),
+        Ok(Answer::Ready) => put(b"ready", out, at),
+        Ok(Answer::Taken) => put(b"taken", out, at),
+        Ok(Answer::Moved) => put(b"moved", out, at),
+        Ok(Answer::Waits) => put(b"waits", out, at),
+        Ok(Answer::Load(v)) => put_valued(b"load ", v, out, at),
+        Ok(Answer::Ll(v)) => put_valued(b"ll ", v, out, at),
+        Ok(Answer::Store) => put(b"store", out, at),
+        Ok(Answer::Sc(v)) => put_valued(b"sc ", v, out, at),
+        Ok(Answer::Poked) => put(b"poked", out, at),
+        Ok(Answer::Word(v)) => put_valued(b"word ", v, out, at),
     }
 }
 
@@ -149,14 +149,14 @@ fn put_line_number(number: u64, line: LineNumber, out: &mut [u8], at: usize) -> 
 }
 
 // What follows a line's number.
-fn put_rest(answer: Answer, out: &mut [u8], at: usize) -> usize
+fn put_rest(answer: Result<Answer, Refusal>, out: &mut [u8], at: usize) -> usize
     requires { at + 28 ≤ length out.old }
     ensures out_after { out.new ≡ put_in (rest_of answer) at out.old }
     ensures value { result ≡ at + length (rest_of answer) }
     ensures upper_bound { result ≤ at + 28 }
 {
     let first = put(b" ", out, at);
-    let second = put_answer(answer.number(), out, first);
+    let second = put_answer(number_of(&answer), out, first);
     let third = put_words(answer, out, second);
     put(b"\n", out, third)
 }
@@ -166,7 +166,7 @@ fn put_rest(answer: Answer, out: &mut [u8], at: usize) -> usize
 pub fn answer_line(
     number: u64,
     line: LineNumber,
-    answer: Answer,
+    answer: Result<Answer, Refusal>,
     out: &mut [u8],
     at: usize,
 ) -> usize

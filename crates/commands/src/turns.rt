@@ -1,12 +1,9 @@
 // A command on a machine that is known to be in its ranges and stays with the caller: the one core that it may
 // change goes in, and comes back as it leaves it.
-ghost use Rattle.std.specs.Prelude.{◌≡◌, length};
+ghost use Rattle.std.specs.Prelude.{◌≡◌};
 ghost use Rattle.commands.specs.Turns.{
-  none,
-  one,
   one_core,
   did_outcome,
-  no_turn,
   give_turn,
   step_turn,
   poke_turn,
@@ -14,166 +11,122 @@ ghost use Rattle.commands.specs.Turns.{
   act_on,
 };
 
-use crate::effect::used;
 use crate::grammar::Command;
-use machine::{Answer, Core, GuestAddress, Handed, Operation};
+use machine::{Answer, Core, GuestAddress, Operation, Record, Refusal, Sizes};
 
-// Whether a command leaves the machine as it is but for one core, and which: a give and a step change their own; a
-// poke and a show change none, and any core will do.
-#[derive(Clone, Copy)]
-pub struct OneCore {
-    pub one: bool,
-    pub core: usize,
-}
-
-// What a command answers, the record that it makes, if it makes one, and what becomes of the core.
+// What a command answers that is not refused, the record that it makes, if it makes one, and what becomes of the core.
 #[derive(Clone, Copy)]
 pub struct Did {
     pub answer: Answer,
-    pub made: Handed,
+    pub made: Option<Record>,
     pub core: Core,
 }
 
-fn no_core() -> OneCore
-    ensures { result ≡ none }
-{
-    OneCore {
-        one: false,
-        core: 0,
-    }
-}
-
-fn own_core(core: u32) -> OneCore
-    ensures { result ≡ one core }
-{
-    OneCore {
-        one: true,
-        core: core as usize,
-    }
-}
-
-pub fn one_core_of(command: Command) -> OneCore
+// The one core that a command may change, where it leaves the machine as it is but for that: a give and a step change
+// their own; a poke and a show change none, and any core will do.
+pub fn one_core_of(command: Option<Command>) -> Option<usize>
     ensures { result ≡ one_core command }
 {
-    match command {
-        Command::NotUnderstood => no_core(),
-        Command::New(_, _) => no_core(),
-        Command::NewWith(_, _, _) => no_core(),
-        Command::Give(core, _) => own_core(core),
-        Command::Step(core) => own_core(core),
-        Command::Poke(_, _) => own_core(0),
-        Command::Show(_) => own_core(0),
-    }
-}
-
-// A command that changes more than one core: it is refused, and done elsewhere.
-fn no_turn(c: Core) -> Did
-    ensures { result ≡ no_turn c }
-{
-    Did {
-        answer: Answer::Refused(9),
-        made: Handed::Nothing,
-        core: c,
+    match command? {
+        Command::New { .. } => None,
+        Command::Give(core, _) | Command::Step(core) => Some(core as usize),
+        Command::Poke(_, _) | Command::Show(_) => Some(0),
     }
 }
 
 // `give CORE ..`
-fn give_turn(count: usize, bytes: usize, c: Core, core: u32, operation: Operation) -> Did
-    ensures { result ≡ give_turn count bytes c core operation }
+fn give_turn(sizes: Sizes, c: Core, core: u32, operation: Operation) -> Result<Did, Refusal>
+    ensures { result ≡ give_turn sizes c core operation }
 {
-    let grant = machine::give_core(count, bytes, c, core as usize, operation);
-    let answer = grant.answer;
-    let core = grant.core;
-    Did {
-        answer,
-        made: Handed::Nothing,
+    let core = machine::give_core(sizes, c, core as usize, operation)?;
+    Ok(Did {
+        answer: Answer::Taken,
+        made: None,
         core,
-    }
+    })
 }
 
 // `step CORE`
 fn step_turn(
-    count: usize,
-    bytes: usize,
-    entries: usize,
+    sizes: Sizes,
     c: Core,
     memory: &mut [u8],
     owners: &mut [u8],
     holders: &mut [u8],
     core: u32,
-) -> Did
-    ensures { did_outcome result memory.new owners.new holders.new ≡ step_turn count bytes entries c memory.old owners.old holders.old core }
+) -> Result<Did, Refusal>
+    ensures { did_outcome result memory.new owners.new holders.new ≡ step_turn sizes c memory.old owners.old holders.old core }
 {
-    let b = used(bytes, memory.len());
-    let o = used(entries, owners.len());
-    let h = used(entries, holders.len());
+    let b = sizes.bytes.min(memory.len());
+    let o = sizes.entries.min(owners.len());
+    let h = sizes.entries.min(holders.len());
     let step = machine::step_core(
-        count,
-        bytes,
-        entries,
+        sizes,
         c,
         &mut memory[..b],
         &mut owners[..o],
         &mut holders[..h],
         core as usize,
-    );
-    let answer = step.answer;
-    let made = step.made;
-    let core = step.core;
-    Did { answer, made, core }
+    )?;
+    Ok(Did {
+        answer: step.answer,
+        made: step.made,
+        core: step.core,
+    })
 }
 
 // `poke ADDRESS VALUE`
-fn poke_turn(bytes: usize, c: Core, memory: &mut [u8], address: GuestAddress, value: u32) -> Did
+fn poke_turn(
+    bytes: usize,
+    c: Core,
+    memory: &mut [u8],
+    address: GuestAddress,
+    value: u32,
+) -> Result<Did, Refusal>
     ensures value { result ≡ (poke_turn bytes c memory.old address value).did }
     ensures memory_after { memory.new ≡ (poke_turn bytes c memory.old address value).memory }
 {
-    let b = used(bytes, memory.len());
-    let poked = machine::poke_word(bytes, &mut memory[..b], address, value);
-    let answer = poked.answer;
-    let made = poked.made;
-    Did {
-        answer,
-        made,
+    let b = bytes.min(memory.len());
+    let made = machine::poke_word(bytes, &mut memory[..b], address, value)?;
+    Ok(Did {
+        answer: Answer::Poked,
+        made: Some(made),
         core: c,
-    }
+    })
 }
 
 // `show ADDRESS`
-fn show_turn(bytes: usize, c: Core, memory: &[u8], address: GuestAddress) -> Did
+fn show_turn(bytes: usize, c: Core, memory: &[u8], address: GuestAddress) -> Result<Did, Refusal>
     ensures { result ≡ show_turn bytes c memory.now address }
 {
-    let b = used(bytes, memory.len());
-    let answer = machine::show_word(bytes, &memory[..b], address);
-    Did {
-        answer,
-        made: Handed::Nothing,
+    let b = bytes.min(memory.len());
+    let word = machine::show_word(bytes, &memory[..b], address)?;
+    Ok(Did {
+        answer: Answer::Word(word),
+        made: None,
         core: c,
-    }
+    })
 }
 
 // What a command does that leaves the machine as it is but for the core c. Memory and the two tables are lent
-// whole; the machine uses their first bytes.
+// whole; the machine uses their first bytes. A command that makes a machine, and a line that is no command, are done
+// elsewhere.
 #[tactic(auto, unfolding(crate::specs::Turns::act_on))]
 pub fn act(
-    count: usize,
-    bytes: usize,
-    entries: usize,
+    sizes: Sizes,
     c: Core,
     memory: &mut [u8],
     owners: &mut [u8],
     holders: &mut [u8],
-    command: Command,
-) -> Did
-    ensures { did_outcome result memory.new owners.new holders.new ≡ act_on count bytes entries c memory.old owners.old holders.old command }
+    command: Option<Command>,
+) -> Result<Did, Refusal>
+    ensures { did_outcome result memory.new owners.new holders.new ≡ act_on sizes c memory.old owners.old holders.old command }
 {
     match command {
-        Command::NotUnderstood => no_turn(c),
-        Command::New(_, _) => no_turn(c),
-        Command::NewWith(_, _, _) => no_turn(c),
-        Command::Give(core, operation) => give_turn(count, bytes, c, core, operation),
-        Command::Step(core) => step_turn(count, bytes, entries, c, memory, owners, holders, core),
-        Command::Poke(address, value) => poke_turn(bytes, c, memory, address, value),
-        Command::Show(address) => show_turn(bytes, c, memory, address),
+        None | Some(Command::New { .. }) => Err(Refusal::NotUnderstood),
+        Some(Command::Give(core, operation)) => give_turn(sizes, c, core, operation),
+        Some(Command::Step(core)) => step_turn(sizes, c, memory, owners, holders, core),
+        Some(Command::Poke(address, value)) => poke_turn(sizes.bytes, c, memory, address, value),
+        Some(Command::Show(address)) => show_turn(sizes.bytes, c, memory, address),
     }
 }

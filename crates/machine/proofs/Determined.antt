@@ -1,18 +1,19 @@
 -- Every two outcomes that a public call's contract allows on one input are equal: the result, and every lent byte at exit. One argument serves all.
 -- Assumes nothing.
-use Rattle.std.proofs.Common.{◌≡◌}
+use Rattle.std.proofs.Common.{◌≡◌, ℕ, Result}
 use contract.Lifetimes.{Lfts}
 use borrow.Fn.World.{ArgsD}
 use borrow.Fn.Kinds.{ended_of}
 use denote.Triple.Clauses.{AtExit}
 use Rattle.rules.specs.Calls.{Outcome, outcome, PokeOutcome, poke_outcome}
 use Rattle.rules.specs.declared.state.Called.{Called}
-use Rattle.rules.specs.declared.answers.Answer.{Answer}
+use Rattle.rules.specs.declared.answers.Record.{Record}
+use Rattle.rules.specs.declared.refusals.Refusal.{Refusal}
+use Rattle.rules.specs.declared.cores.Core.{Core}
 use Rattle.rules.specs.declared.cores.MicroStep.{MicroStep}
+use Rattle.machine.specs.declared.sizes.Sizes.{Sizes}
 use Rattle.machine.specs.Acted.{Acted, acted}
 use Rattle.machine.specs.Known.{PokedOutcome, poked_outcome}
-use Rattle.machine.specs.declared.calls.Grant.{Grant}
-use Rattle.machine.specs.declared.place.Stepped.{Stepped}
 use Rattle.rules.proofs.Lawful.{one-outcome}
 use Rattle.machine.specs.contracts.calls.start as start
 use Rattle.machine.proofs.calls.start.Kinds as start-kinds
@@ -38,6 +39,9 @@ use Rattle.machine.proofs.known.give_core.Reads as give-core-reads
 use Rattle.machine.specs.contracts.known.poke_word as poke-word
 use Rattle.machine.proofs.known.poke_word.Kinds as poke-word-kinds
 use Rattle.machine.proofs.known.poke_word.Reads as poke-word-reads
+use Rattle.machine.specs.contracts.sizes.Sizes.of as sizes-of
+use Rattle.machine.proofs.sizes.Sizes.of.Kinds as sizes-of-kinds
+use Rattle.machine.proofs.sizes.Sizes.of.Reads as sizes-of-reads
 use Rattle.machine.specs.contracts.known.show_word as show-word
 use Rattle.machine.proofs.known.show_word.Kinds as show-word-kinds
 use Rattle.machine.proofs.known.show_word.Reads as show-word-reads
@@ -62,18 +66,22 @@ module _ (κs : Lfts 1) (a : ArgsD show.signature κs) (one other : Called) (s t
   pub show_determined : show-reads.Post κs a one s → show-reads.Post κs a other t → one ≡ other
   show_determined p q = one-outcome Called _ _ _ p.1 q.1
 
-module _ (κs : Lfts 3) (a : ArgsD step-core.signature κs) (one other : MicroStep) (s t : AtExit (ended_of 3 step-core-kinds.ps step-core-kinds.r) κs) where
-  pub step_core_determined : step-core-reads.Post κs a one s → step-core-reads.Post κs a other t → acted one s.1.1.1.1.0.now s.1.1.1.1.1.0.now s.1.1.1.1.1.1.0.now ≡ acted other t.1.1.1.1.0.now t.1.1.1.1.1.0.now t.1.1.1.1.1.1.0.now
+module _ (κs : Lfts 3) (a : ArgsD step-core.signature κs) (one other : Result MicroStep Refusal) (s t : AtExit (ended_of 3 step-core-kinds.ps step-core-kinds.r) κs) where
+  pub step_core_determined : step-core-reads.Post κs a one s → step-core-reads.Post κs a other t → acted one s.1.1.0.now s.1.1.1.0.now s.1.1.1.1.0.now ≡ acted other t.1.1.0.now t.1.1.1.0.now t.1.1.1.1.0.now
   step_core_determined p q = one-outcome Acted _ _ _ p q
 
-module _ (κs : Lfts 0) (a : ArgsD give-core.signature κs) (one other : Grant) (s t : AtExit (ended_of 0 give-core-kinds.ps give-core-kinds.r) κs) where
+module _ (κs : Lfts 0) (a : ArgsD give-core.signature κs) (one other : Result Core Refusal) (s t : AtExit (ended_of 0 give-core-kinds.ps give-core-kinds.r) κs) where
   pub give_core_determined : give-core-reads.Post κs a one s → give-core-reads.Post κs a other t → one ≡ other
-  give_core_determined p q = one-outcome Grant _ _ _ p q
+  give_core_determined p q = one-outcome (Result Core Refusal) _ _ _ p q
 
-module _ (κs : Lfts 1) (a : ArgsD poke-word.signature κs) (one other : Stepped) (s t : AtExit (ended_of 1 poke-word-kinds.ps poke-word-kinds.r) κs) where
+module _ (κs : Lfts 1) (a : ArgsD poke-word.signature κs) (one other : Result Record Refusal) (s t : AtExit (ended_of 1 poke-word-kinds.ps poke-word-kinds.r) κs) where
   pub poke_word_determined : poke-word-reads.Post κs a one s → poke-word-reads.Post κs a other t → poked_outcome one s.1.0.now ≡ poked_outcome other t.1.0.now
   poke_word_determined p q = one-outcome PokedOutcome _ _ _ p q
 
-module _ (κs : Lfts 1) (a : ArgsD show-word.signature κs) (one other : Answer) (s t : AtExit (ended_of 1 show-word-kinds.ps show-word-kinds.r) κs) where
+module _ (κs : Lfts 1) (a : ArgsD show-word.signature κs) (one other : Result ℕ Refusal) (s t : AtExit (ended_of 1 show-word-kinds.ps show-word-kinds.r) κs) where
   pub show_word_determined : show-word-reads.Post κs a one s → show-word-reads.Post κs a other t → one ≡ other
-  show_word_determined p q = one-outcome Answer _ _ _ p q
+  show_word_determined p q = one-outcome (Result ℕ Refusal) _ _ _ p q
+
+module _ (κs : Lfts 1) (a : ArgsD sizes-of.signature κs) (one other : Sizes) (s t : AtExit (ended_of 1 sizes-of-kinds.ps sizes-of-kinds.r) κs) where
+  pub sizes_of_determined : sizes-of-reads.Post κs a one s → sizes-of-reads.Post κs a other t → one ≡ other
+  sizes_of_determined p q = one-outcome Sizes _ _ _ p q

@@ -1,5 +1,5 @@
 pub mod Bytes
+pub mod Entries
 pub mod Looking
-pub mod Acting
 pub mod Determined
 pub mod Knowing

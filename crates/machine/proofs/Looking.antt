@@ -5,12 +5,12 @@ use mathlib.Core.Bool.{false≢true, and-true}
 use borrow.Author.Tests.{eqb-false, lt-leb}
 use Rattle.rules.specs.Basics.{all_below}
 use Rattle.rules.specs.Kinds.{is_ll, is_store, is_sc}
-use Rattle.rules.specs.Ranges.{sizes_fit, uses_value, uses_read, uses_passed, in_use_or0, link_fields, operation_occurs, step_occurs, operation_fits, inside, place_fits, core_fits, core_at, every_core_fits, in_ranges}
+use Rattle.rules.specs.Ranges.{sizes_fit, uses_value, uses_read, uses_passed, in_use_or0, link_fields, operation_occurs, step_occurs, operation_fits, inside, place_fits, core_fits, core_at, in_ranges}
 use Rattle.machine.specs.Looked.{stage_of, can_be_at, spare, spare_are0, word_at, words_of, words_for, room_of, looks_right_at, core_looks_right, fits_at}
 use Rattle.rules.specs.declared.cores.Core.{Core}
 use Rattle.rules.specs.declared.state.Machine.{Machine}
 use Rattle.rules.proofs.Bools.{and₂, and₃, and₄, same, and_false}
-use Rattle.rules.proofs.Accepted.{at_below, sizes}
+use Rattle.rules.proofs.Accepted.{at_below, core_fits_lem, sizes}
 
 -- what the ranges ask of a core's operation, next step and flags
 abbrev stage_fits : Bool → Bool → ℕ → ℕ → Bool
@@ -203,10 +203,18 @@ alike : (m : Machine) → sizes_fit m ≡ true → (i : ℕ) → fits_at m i ≡
 unfolding fits_at
 alike m h i = let s = sizes m h in core_looks m.count m.bytes i (core_at m i) s.most_bytes s.words
 
-pub looked : (m : Machine) → ((((((((sizes_fit m && fits_at m 0) && fits_at m 1) && fits_at m 2) && fits_at m 3) && fits_at m 4) && fits_at m 5) && fits_at m 6) && fits_at m 7) ≡ in_ranges m
+-- and so the look tells whether the state is in its ranges: sizes that do not fit, a core that does not, or all that fit
+pub no_sizes : (m : Machine) → sizes_fit m ≡ false → in_ranges m ≡ false
 unfolding in_ranges
-looked m = go (sizes_fit m) refl
+no_sizes m h = rw h
+
+pub a_core_out : (m : Machine) (i : ℕ) → sizes_fit m ≡ true → i < 8 → fits_at m i ≡ false → in_ranges m ≡ false
+a_core_out m i h below out = go (in_ranges m) refl
   where
-    go : (t : Bool) → sizes_fit m ≡ t → ((((((((t && fits_at m 0) && fits_at m 1) && fits_at m 2) && fits_at m 3) && fits_at m 4) && fits_at m 5) && fits_at m 6) && fits_at m 7) ≡ t && every_core_fits m
-    go true h = rw (alike m h 0, alike m h 1, alike m h 2, alike m h 3, alike m h 4, alike m h 5, alike m h 6, alike m h 7)
-    go false h = refl
+    go : (t : Bool) → in_ranges m ≡ t → t ≡ false
+    go true r = absurd (false≢true (sym out ∙ alike m h i ∙ core_fits_lem m r i below))
+    go false r = refl
+
+pub all_looked : (m : Machine) → sizes_fit m ≡ true → all_below 8 (fits_at m) ≡ true → in_ranges m ≡ true
+unfolding in_ranges
+all_looked m h all = rw (h, ← alike m h 0, ← alike m h 1, ← alike m h 2, ← alike m h 3, ← alike m h 4, ← alike m h 5, ← alike m h 6, ← alike m h 7) all

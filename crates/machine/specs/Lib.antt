@@ -1,4 +1,5 @@
 pub mod Looked
+pub mod Whole
 pub mod Place
 pub mod Reach
 pub mod Acted

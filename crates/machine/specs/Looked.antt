@@ -1,5 +1,5 @@
 -- No rule of the document: what the code looks at in a core, with a test of several fields at once. Where the sizes fit it asks of the eight cores what the page Ranges.antt of `rules` asks (`looked` in proofs/Looking.antt), and no public contract cites it.
-use Rattle.std.specs.Prelude.{ℕ, ◌+◌, ◌*◌, ◌/◌, ◌%◌, ◌^◌, Bool, ◌&&◌, ◌==◌, bit_and, nat_le, nat_lt, if◌then◌else◌}
+use Rattle.std.specs.Prelude.{ℕ, ◌+◌, ◌*◌, ◌/◌, ◌%◌, ◌^◌, Bool, ◌&&◌, ◌==◌, nat_le, nat_lt, if◌then◌else◌}
 use Rattle.rules.specs.Ranges.{core_at}
 use Rattle.rules.specs.declared.cores.Core.{Core}
 use Rattle.rules.specs.declared.state.Machine.{Machine}
@@ -20,12 +20,8 @@ busy_stages = 129354301952
 abbrev pub passed_stages : ℕ
 passed_stages = 103079215104
 
--- every stage up to sc 4
-abbrev pub any_stages : ℕ
-any_stages = 137438953471
-
 abbrev pub stages_of : Bool → Bool → ℕ
-stages_of busy passed = bit_and (if busy then busy_stages else idle_stages) (if passed then passed_stages else any_stages)
+stages_of busy passed = if busy then (if passed then passed_stages else busy_stages) else if passed then 0 else idle_stages
 
 -- the stage's bit is set
 unfoldable pub can_be_at : Bool → Bool → ℕ → Bool

@@ -1,7 +1,13 @@
--- The step on the machine where it stands: its result and the machine that it leaves are what `step` hands back.
+-- The give and the step on the machine where it stands: the result and the machine that it leaves are what `give` or `step` hands back.
+use Rattle.std.specs.Prelude.{Result, None}
 use Rattle.machine.specs.declared.place.Stepped.{Stepped}
+use Rattle.rules.specs.declared.answers.Answer.{Answer}
+use Rattle.rules.specs.declared.refusals.Refusal.{Refusal}
 use Rattle.rules.specs.declared.state.Machine.{Machine}
 use Rattle.rules.specs.declared.state.Called.{Called}
+
+abbrev pub given_at : Result Answer Refusal → Machine → Called
+given_at answer m = record { answer = answer; made = None; machine = m }
 
 abbrev pub called_at : Stepped → Machine → Called
 called_at s m = record { answer = s.answer; made = s.made; machine = m }

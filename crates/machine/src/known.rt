@@ -1,10 +1,12 @@
 // The calls for a caller that knows its machine to be in its ranges and keeps it: they are handed the sizes and, for
 // a give and a step, one core, and look at nothing else of the state. Where the caller is wrong and what a call
-// would touch is not there, it answers 5 and touches nothing.
+// would touch is not there, it is refused as out of range and touches nothing. The calls on a whole machine are
+// these, behind a look at its ranges.
 ghost use Rattle.std.specs.Prelude.{◌≡◌, length};
-ghost use Rattle.rules.specs.Entry.{entry_of};
+ghost use Rattle.rules.specs.Calls.{address_refusal};
 ghost use Rattle.machine.specs.Acted.{acted};
 ghost use Rattle.machine.specs.Known.{
+  entry_for,
   known_step_refusal,
   step_core_of,
   known_give_refusal,
@@ -15,138 +17,140 @@ ghost use Rattle.machine.specs.Known.{
   show_word_of,
 };
 
-use crate::calls::{Grant, acted, address_refusal, given_unless, refuse, taken_unless};
-use crate::place::Stepped;
+use crate::sizes::Sizes;
 use crate::{ranges, word};
-use rules::{Answer, Core, GuestAddress, Handed, MicroStep, Operation, Record, entry_of};
+use rules::{Core, GuestAddress, MicroStep, Operation, Record, Refusal, entry_of};
 
-fn known_step_refusal(
-    count: usize,
-    bytes: usize,
-    entries: usize,
+fn address_refusal(bytes: usize, a: GuestAddress) -> Result<(), Refusal>
+    ensures { result ≡ address_refusal bytes a }
+{
+    let place = a.place();
+    if place % 4 != 0 {
+        return Err(Refusal::Unaligned);
+    }
+    if bytes <= place {
+        return Err(Refusal::Outside);
+    }
+    Ok(())
+}
+
+#[tactic(auto, unfolding(crate::specs::Known::known_step_refusal))]
+fn step_refusal(
+    sizes: Sizes,
     c: Core,
     e: usize,
     memory: usize,
     owners: &[u8],
     holders: &[u8],
     core: usize,
-) -> u32
-    requires { e ≡ (entry_of entries c.address).0 }
-    ensures { result ≡ known_step_refusal count bytes entries c memory owners.now holders.now core }
+) -> Result<(), Refusal>
+    requires { e ≡ entry_for sizes c }
+    ensures { result ≡ known_step_refusal sizes c memory owners.now holders.now core }
 {
-    if !((memory == bytes) & (owners.len() == entries) & (holders.len() == entries)) {
-        return 4;
+    let entries = sizes.entries;
+    if !((memory == sizes.bytes) & (owners.len() == entries) & (holders.len() == entries)) {
+        return Err(Refusal::LentLengths);
     }
-    if count <= core {
-        return 1;
+    if sizes.count <= core {
+        return Err(Refusal::NoSuchCore);
     }
     if !c.busy {
-        return 8;
+        return Err(Refusal::Idle);
     }
-    let address = c.address;
-    let place = address.place();
-    if !((core < 8) & (e < entries) & (place + 4 <= bytes)) {
-        return 5;
+    if !((core < 8) & (e < entries) & (c.address.place() + 4 <= sizes.bytes)) {
+        return Err(Refusal::OutOfRange);
     }
-    let damaged = ranges::damaged(count, core as u8, c, owners[e], holders[e]);
-    refuse(damaged, 6, 0)
+    if ranges::damaged(sizes.count, core as u8, c, owners[e], holders[e]) {
+        return Err(Refusal::Damaged);
+    }
+    Ok(())
 }
 
 // One micro-step of the core c, which the caller then puts in its place.
+#[tactic(auto, unfolding(crate::specs::Acted::acted_of), using(crate::proofs::Knowing::step_reach, crate::proofs::Knowing::own_step))]
 pub fn step_core(
-    count: usize,
-    bytes: usize,
-    entries: usize,
+    sizes: Sizes,
     c: Core,
     memory: &mut [u8],
     owners: &mut [u8],
     holders: &mut [u8],
     core: usize,
-) -> MicroStep
-    ensures { acted result memory.new owners.new holders.new ≡ step_core_of count bytes entries c memory.old owners.old holders.old core }
+) -> Result<MicroStep, Refusal>
+    ensures { acted result memory.new owners.new holders.new ≡ step_core_of sizes c memory.old owners.old holders.old core }
 {
-    let address = c.address;
-    let e = entry_of(entries, address).0;
-    let number = known_step_refusal(
-        count,
-        bytes,
-        entries,
-        c,
-        e,
-        memory.len(),
-        owners,
-        holders,
-        core,
-    );
-    acted(number, c, e, memory, owners, holders, core)
+    let e = entry_of(sizes.entries, c.address).0;
+    step_refusal(sizes, c, e, memory.len(), owners, holders, core)?;
+    let word = word::read_word(memory, c.address);
+    let did = c.micro_step(core, owners[e], holders[e], word);
+    owners[e] = did.owner;
+    holders[e] = did.holder;
+    if did.writes {
+        word::write_word(memory, c.address, c.value);
+    }
+    Ok(did)
 }
 
-fn known_give_refusal(count: usize, bytes: usize, c: Core, core: usize, operation: Operation) -> u32
-    ensures { result ≡ known_give_refusal count bytes c core operation }
+#[tactic(auto, unfolding(crate::specs::Known::known_give_refusal))]
+fn give_refusal(sizes: Sizes, c: Core, core: usize, operation: Operation) -> Result<(), Refusal>
+    ensures { result ≡ known_give_refusal sizes c core operation }
 {
-    if count <= core {
-        return 1;
+    if sizes.count <= core {
+        return Err(Refusal::NoSuchCore);
     }
     if c.busy {
-        return 7;
+        return Err(Refusal::Busy);
     }
-    address_refusal(bytes, operation.address())
+    address_refusal(sizes.bytes, operation.address())
 }
 
 // An operation for the core c, which the caller then puts in its place.
-pub fn give_core(count: usize, bytes: usize, c: Core, core: usize, operation: Operation) -> Grant
-    ensures { result ≡ give_core_of count bytes c core operation }
+#[tactic(auto, unfolding(crate::specs::Known::give_core_of))]
+pub fn give_core(sizes: Sizes, c: Core, core: usize, operation: Operation) -> Result<Core, Refusal>
+    ensures { result ≡ give_core_of sizes c core operation }
 {
-    let number = known_give_refusal(count, bytes, c, core, operation);
-    Grant {
-        core: given_unless(number, c, operation),
-        answer: taken_unless(number),
-    }
+    give_refusal(sizes, c, core, operation)?;
+    Ok(c.given(operation))
 }
 
-fn known_word_refusal(bytes: usize, memory: usize, address: GuestAddress) -> u32
+#[tactic(auto, unfolding(crate::specs::Known::known_word_refusal))]
+fn word_refusal(bytes: usize, memory: usize, address: GuestAddress) -> Result<(), Refusal>
     ensures { result ≡ known_word_refusal bytes memory address }
 {
     if memory != bytes {
-        return 4;
+        return Err(Refusal::LentLengths);
     }
-    let number = address_refusal(bytes, address);
-    if number != 0 {
-        return number;
+    address_refusal(bytes, address)?;
+    if bytes < address.place() + 4 {
+        return Err(Refusal::OutOfRange);
     }
-    refuse(bytes < address.place() + 4, 5, 0)
+    Ok(())
 }
 
-// A write by the bench, at once.
-pub fn poke_word(bytes: usize, memory: &mut [u8], address: GuestAddress, value: u32) -> Stepped
+// A write by the bench, at once, and the record that it makes.
+#[tactic(auto, unfolding(crate::specs::Known::poke_word_of), using(crate::proofs::Knowing::word_reached))]
+pub fn poke_word(
+    bytes: usize,
+    memory: &mut [u8],
+    address: GuestAddress,
+    value: u32,
+) -> Result<Record, Refusal>
     ensures { poked_outcome result memory.new ≡ poke_word_of bytes memory.old address value }
 {
-    let number = known_word_refusal(bytes, memory.len(), address);
-    if number != 0 {
-        return Stepped {
-            answer: Answer::Refused(number),
-            made: Handed::Nothing,
-        };
-    }
+    word_refusal(bytes, memory.len(), address)?;
     word::write_word(memory, address, value);
-    Stepped {
-        answer: Answer::Poked,
-        made: Handed::One(Record {
-            core: 255,
-            kind: 6,
-            address,
-            value,
-        }),
-    }
+    Ok(Record {
+        core: 255,
+        kind: 6,
+        address,
+        value,
+    })
 }
 
 // The word at an address.
-pub fn show_word(bytes: usize, memory: &[u8], address: GuestAddress) -> Answer
+#[tactic(auto, unfolding(crate::specs::Known::show_word_of), using(crate::proofs::Knowing::word_reached))]
+pub fn show_word(bytes: usize, memory: &[u8], address: GuestAddress) -> Result<u32, Refusal>
     ensures { result ≡ show_word_of bytes memory.now address }
 {
-    let number = known_word_refusal(bytes, memory.len(), address);
-    if number != 0 {
-        return Answer::Refused(number);
-    }
-    Answer::Word(word::read_word(memory, address))
+    word_refusal(bytes, memory.len(), address)?;
+    Ok(word::read_word(memory, address))
 }

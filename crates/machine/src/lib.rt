@@ -8,12 +8,13 @@ mod calls;
 mod known;
 mod place;
 mod ranges;
+mod sizes;
 mod word;
 
-pub use calls::{Grant, poke, show, start};
+pub use calls::{poke, show, start};
 pub use known::{give_core, poke_word, show_word, step_core};
 pub use place::{Stepped, give, give_in_place, step, step_in_place};
 pub use rules::{
-    Answer, Called, Core, GuestAddress, Handed, Machine, MicroStep, Operation, Record, Refusal,
-    number_of,
+    Answer, Called, Core, GuestAddress, Machine, MicroStep, Operation, Record, Refusal, number_of,
 };
+pub use sizes::Sizes;

@@ -1,52 +1,41 @@
 // A give and a step on the machine where it stands, and by value above them.
 ghost use Rattle.std.specs.Prelude.{◌≡◌, length};
-ghost use Rattle.rules.specs.Answers.{number_of};
-ghost use Rattle.rules.specs.Calls.{outcome, answered, give_refusal, give_of, step_refusal, step_of};
-ghost use Rattle.rules.specs.Ranges.{in_ranges};
-ghost use Rattle.machine.specs.Place.{called_at};
+ghost use Rattle.rules.specs.Refusals.{number_in};
+ghost use Rattle.rules.specs.Calls.{outcome, give_refusal, give_of, step_refusal, step_of};
+ghost use Rattle.machine.specs.Place.{given_at, called_at};
 
-use crate::calls::{granted, turned};
+use crate::known::{give_core, step_core};
 use crate::ranges;
-use rules::{Answer, Called, Handed, Machine, Operation};
+use crate::sizes::Sizes;
+use rules::{Answer, Called, Machine, Operation, Record, Refusal};
 
-// What a call hands back that leaves the machine with its caller.
-#[derive(Clone, Copy)]
+// What a step hands back that leaves the machine with its caller.
+#[derive(Clone, Copy, PartialEq, Eq, Debug)]
 pub struct Stepped {
-    pub answer: Answer,
-    pub made: Handed,
-}
-
-// Whether the state is in its ranges, looked at where it stands. One core at a time: a copy of the machine
-// of which a test reads one core is none.
-pub(crate) fn fits(machine: &mut Machine) -> bool
-    ensures value { result ≡ in_ranges machine.old }
-    ensures machine_unchanged { machine.new ≡ machine.old }
-{
-    let sizes = ranges::sizes_fit(*machine);
-    let to_0 = ranges::fits_after(sizes, *machine, 0);
-    let to_1 = ranges::fits_after(to_0, *machine, 1);
-    let to_2 = ranges::fits_after(to_1, *machine, 2);
-    let to_3 = ranges::fits_after(to_2, *machine, 3);
-    let to_4 = ranges::fits_after(to_3, *machine, 4);
-    let to_5 = ranges::fits_after(to_4, *machine, 5);
-    let to_6 = ranges::fits_after(to_5, *machine, 6);
-    ranges::fits_after(to_6, *machine, 7)
+    pub answer: Result<Answer, Refusal>,
+    pub made: Option<Record>,
 }
 
 // An operation for an idle core, which leaves the machine as `give` hands it back.
-pub fn give_in_place(machine: &mut Machine, core: usize, operation: Operation) -> Answer
-    ensures number { number_of result ≡ give_refusal machine.old core operation }
-    ensures outcome { answered result machine.new ≡ give_of machine.old core operation }
+#[tactic(auto, unfolding(rules::specs::Calls::give_of, rules::specs::Calls::give_refusal))]
+pub fn give_in_place(
+    machine: &mut Machine,
+    core: usize,
+    operation: Operation,
+) -> Result<Answer, Refusal>
+    ensures number { number_in result ≡ number_in (give_refusal machine.old core operation) }
+    ensures outcome { given_at result machine.new ≡ give_of machine.old core operation }
 {
-    let fits = fits(machine);
+    if !ranges::in_ranges(machine) {
+        return Err(Refusal::OutOfRange);
+    }
     let at = core % 8;
-    let c = machine.cores[at];
-    let granted = granted(fits, *machine, c, core, operation);
-    machine.cores[at] = granted.core;
-    granted.answer
+    machine.cores[at] = give_core(Sizes::of(machine), machine.cores[at], core, operation)?;
+    Ok(Answer::Taken)
 }
 
 // One micro-step of one core, which leaves the machine as `step` hands it back.
+#[tactic(auto, unfolding(rules::specs::Calls::step_of, rules::specs::Calls::step_refusal))]
 pub fn step_in_place(
     machine: &mut Machine,
     memory: &mut [u8],
@@ -54,28 +43,44 @@ pub fn step_in_place(
     holders: &mut [u8],
     core: usize,
 ) -> Stepped
-    ensures number { number_of result.answer ≡ step_refusal machine.old (length memory.old) owners.old holders.old core }
+    ensures number { number_in result.answer ≡ number_in (step_refusal machine.old (length memory.old) owners.old holders.old core) }
     ensures outcome { outcome (called_at result machine.new) memory.new owners.new holders.new ≡ step_of machine.old memory.old owners.old holders.old core }
 {
-    let fits = fits(machine);
+    if !ranges::in_ranges(machine) {
+        return Stepped {
+            answer: Err(Refusal::OutOfRange),
+            made: None,
+        };
+    }
     let at = core % 8;
-    let c = machine.cores[at];
-    let did = turned(fits, *machine, c, memory, owners, holders, core);
-    machine.cores[at] = did.core;
-    Stepped {
-        answer: did.answer,
-        made: did.made,
+    let sizes = Sizes::of(machine);
+    match step_core(sizes, machine.cores[at], memory, owners, holders, core) {
+        Ok(did) => {
+            machine.cores[at] = did.core;
+            Stepped {
+                answer: Ok(did.answer),
+                made: did.made,
+            }
+        }
+        Err(refusal) => Stepped {
+            answer: Err(refusal),
+            made: None,
+        },
     }
 }
 
 // An operation for an idle core, of a machine by value: it is given in a local.
 pub fn give(m: Machine, core: usize, operation: Operation) -> Called
-    ensures number { number_of result.answer ≡ give_refusal m core operation }
+    ensures number { number_in result.answer ≡ number_in (give_refusal m core operation) }
     ensures outcome { result ≡ give_of m core operation }
 {
     let mut machine = m;
     let answer = give_in_place(&mut machine, core, operation);
-    Called::answered(answer, machine)
+    Called {
+        answer,
+        made: None,
+        machine,
+    }
 }
 
 // One micro-step of one core, of a machine by value: it is stepped in a local.
@@ -86,7 +91,7 @@ pub fn step(
     holders: &mut [u8],
     core: usize,
 ) -> Called
-    ensures number { number_of result.answer ≡ step_refusal m (length memory.old) owners.old holders.old core }
+    ensures number { number_in result.answer ≡ number_in (step_refusal m (length memory.old) owners.old holders.old core) }
     ensures outcome { outcome result memory.new owners.new holders.new ≡ step_of m memory.old owners.old holders.old core }
 {
     let mut machine = m;

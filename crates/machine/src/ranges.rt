@@ -9,33 +9,32 @@ use rules::{Core, Machine};
 pub(crate) fn cores_fit(count: usize) -> bool
     ensures { result ≡ cores_fit count }
 {
-    (1 <= count) & (count <= 8)
+    1 <= count && count <= 8
 }
 
 pub(crate) fn bytes_fit(bytes: usize) -> bool
     ensures { result ≡ bytes_fit bytes }
 {
-    (4 <= bytes) & (bytes <= 65536) & (bytes % 4 == 0)
+    4 <= bytes && bytes <= 65536 && bytes % 4 == 0
 }
 
-// A power of two has no bit in common with the number below it.
+#[tactic(auto, using(crate::proofs::Entries::few_entries, crate::proofs::Entries::many_entries))]
 pub(crate) fn entries_fit(e: usize) -> bool
     ensures { result ≡ entries_fit e }
 {
-    let below = std::num::wrapping_sub_usize(e, 1);
-    (below < 4096) & (e & below == 0)
+    e <= 4096 && e.is_power_of_two()
 }
 
 pub(crate) fn tables_fit(owners: usize, holders: usize) -> bool
     ensures { result ≡ tables_fit owners holders }
 {
-    entries_fit(owners) & (holders == owners)
+    entries_fit(owners) && holders == owners
 }
 
-pub(crate) fn sizes_fit(m: Machine) -> bool
-    ensures { result ≡ sizes_fit m }
+fn sizes_fit(m: &Machine) -> bool
+    ensures { result ≡ sizes_fit m.now }
 {
-    cores_fit(m.count) & bytes_fit(m.bytes) & entries_fit(m.entries)
+    cores_fit(m.count) && bytes_fit(m.bytes) && entries_fit(m.entries)
 }
 
 // The stages that a core can be at, a bit for each: eight times its operation's number, and its next step.
@@ -44,36 +43,32 @@ const IDLE: u64 = 1;
 const BUSY: u64 = 129354301952;
 // sc 3 and 4, where its step 2 passed.
 const PASSED: u64 = 103079215104;
-// Every stage up to sc 4.
-const ANY: u64 = 137438953471;
 
-fn choose(test: bool, yes: u64, no: u64) -> u64
+// One of two, chosen and not branched on: as a function of its own it stays so.
+fn choose<T: Copy>(test: bool, yes: T, no: T) -> T
     ensures { result ≡ (if test then yes else no) }
 {
     if test { yes } else { no }
 }
 
-// A field that is not in use, which must be 0.
-fn spare(used: bool, field: u32) -> u32
-    ensures { result ≡ (if used then 0 else field) }
-{
-    if used { 0 } else { field }
-}
-
 // One test of a core's numbers and flags at once.
+#[tactic(auto, unfolding(crate::specs::Looked::can_be_at))]
 fn can_be_at(c: Core, stage: u64) -> bool
     requires { stage < 64 }
     ensures { result ≡ can_be_at c.busy c.passed stage }
 {
-    let stages = choose(c.busy, BUSY, IDLE) & choose(c.passed, PASSED, ANY);
-    (stages >> stage) % 2 == 1
+    let busy = choose(c.passed, PASSED, BUSY);
+    let at_rest = choose(c.passed, 0, IDLE);
+    (choose(c.busy, busy, at_rest) >> stage) % 2 == 1
 }
 
+// A field that is not in use must be 0.
+#[tactic(auto, unfolding(crate::specs::Looked::spare_are0))]
 fn spare_are_0(c: Core, stage: u64) -> bool
     ensures { result ≡ spare_are0 c stage }
 {
-    let value = spare(25 <= stage, c.value);
-    let read = spare(stage == 20, c.read);
+    let value = choose(25 <= stage, 0, c.value);
+    let read = choose(stage == 20, 0, c.read);
     (value == 0) & (read == 0)
 }
 
@@ -102,12 +97,14 @@ fn words_for(count: usize, bytes: usize, at: usize) -> u32
     if at < count { words_of(bytes) } else { 0 }
 }
 
+// The words that an address can be at: one that is not in use is 0.
 fn room_of(used: bool, words: u32) -> u32
     ensures { result ≡ room_of used words }
 {
-    if used { words } else { 1 }
+    choose(used, words, 1)
 }
 
+#[tactic(auto, unfolding(crate::specs::Looked::core_looks_right, crate::specs::Looked::looks_right_at))]
 fn core_looks_right(words: u32, c: Core) -> bool
     ensures { result ≡ core_looks_right words c }
 {
@@ -133,33 +130,33 @@ fn core_looks_right(words: u32, c: Core) -> bool
     true
 }
 
-// Whether the core at a place fits too. It returns at the first test that fails: with one test of all
-// cores the compiler would gather fields of several cores, which costs more than the tests.
-pub(crate) fn fits_after(before: bool, m: Machine, i: usize) -> bool
-    ensures { result ≡ (before && fits_at m (i % 8)) }
+#[tactic(auto, unfolding(crate::specs::Looked::fits_at))]
+fn fits_at(m: &Machine, i: usize) -> bool
+    requires { i < 8 }
+    ensures { result ≡ fits_at m.now i }
 {
-    if !before {
+    core_looks_right(words_for(m.count, m.bytes, i), m.cores[i])
+}
+
+// Whether the state is in its ranges, looked at where it stands, core by core. It returns at the first test
+// that fails: with one test of all cores the compiler would gather fields of several cores, which costs
+// more than the tests.
+#[tactic(auto, using(crate::proofs::Looking::no_sizes, crate::proofs::Looking::a_core_out, crate::proofs::Looking::all_looked))]
+pub(crate) fn in_ranges(m: &Machine) -> bool
+    ensures { result ≡ in_ranges m.now }
+{
+    if !sizes_fit(m) {
         return false;
     }
-    let at = i % 8;
-    let c = m.cores[at];
-    core_looks_right(words_for(m.count, m.bytes, at), c)
+    for i in 0..8 {
+        if !fits_at(m, i) {
+            return false;
+        }
+    }
+    true
 }
 
-pub(crate) fn in_ranges(m: Machine) -> bool
-    ensures { result ≡ in_ranges m }
-{
-    let sizes = sizes_fit(m);
-    let to_0 = fits_after(sizes, m, 0);
-    let to_1 = fits_after(to_0, m, 1);
-    let to_2 = fits_after(to_1, m, 2);
-    let to_3 = fits_after(to_2, m, 3);
-    let to_4 = fits_after(to_3, m, 4);
-    let to_5 = fits_after(to_4, m, 5);
-    let to_6 = fits_after(to_5, m, 6);
-    fits_after(to_6, m, 7)
-}
-
+#[tactic(auto, unfolding(rules::specs::Ranges::damaged))]
 pub(crate) fn damaged(count: usize, me: u8, c: Core, owner: u8, holder: u8) -> bool
     requires { me < 8 }
     ensures { result ≡ damaged count me c owner holder }

@@ -1,6 +1,6 @@
 -- The records of a run are good, and so the run can be archived.
 -- Assumes nothing.
-use Rattle.std.proofs.Common.{if◌then◌else◌}
+use Rattle.std.proofs.Common.{Option, Some, None, ap, if◌then◌else◌}
 use mathlib.Core.Path.{◌≡◌, refl, sym, ap, subst, ◌∙◌}
 use mathlib.Core.Bool.{Bool, true, false, ◌&&◌}
 use mathlib.Core.List.{List, [], ◌∷◌, reverse, reverse_aux}
@@ -8,10 +8,10 @@ use Prim.Native.Nat.{ℕ, zero, suc, ◌^◌, ◌≤◌, ◌<◌}
 use native.Mathlib.Omega.{arith}
 use lib.ListN.{length, replicate, length-reverse}
 use lib.Dec.{eqb, leb}
-use borrow.Author.Tests.{eqb-true, eqb-false, eq-eqb, le-leb, lt-ltb}
+use borrow.Author.Tests.{eqb-true, eq-eqb, le-leb, lt-ltb}
 use Rattle.rules.specs.Word.{read_word}
 use Rattle.rules.specs.Kinds.{address_of, value_of, poke_core, poke_kind}
-use Rattle.rules.specs.Answers.{number_of}
+use Rattle.rules.specs.Refusals.{number_in}
 use Rattle.rules.specs.Calls.{Outcome}
 use Rattle.rules.specs.Laws.{Bytes}
 use Rattle.rules.specs.History.{History, succeeds}
@@ -20,11 +20,10 @@ use Rattle.rules.specs.Runs.{Call, give, step, poke, Fresh, act, after, records,
 use Rattle.rules.specs.declared.entry.GuestAddress.{GuestAddress}
 use Rattle.rules.specs.declared.entry.EntryNumber.{EntryNumber}
 use Rattle.rules.specs.declared.answers.Operation.{Operation}
+use Rattle.rules.specs.declared.answers.Record.{Record}
 use Rattle.rules.specs.declared.answers.Operation.TheVariants as Asked
-use Rattle.rules.specs.declared.answers.Handed.{Handed}
-use Rattle.rules.specs.declared.answers.Handed.TheVariants.{Nothing, One}
 use Rattle.rules.proofs.Accepted.{Inside, sizes_fit_lem, core_small, give_accepted, step_accepted, word_accepted}
-use Rattle.rules.proofs.Numbers.{start_number, give_number, step_number, poke_number}
+use Rattle.rules.proofs.Numbers.{by_zero, not_refused, start_number, give_number, step_number, poke_number}
 use Rattle.rules.proofs.Words.{word_laws}
 use Rattle.rules.proofs.Lawful.{refusal_laws, range_laws}
 use Rattle.rules.proofs.Invariant.{run_inv}
@@ -94,59 +93,52 @@ unfolding address_good
 last_good [] g = record { address = refl; value = omega arith }
 last_good (o ∷ os) g = g.0
 
-by_zero : (P : Type 0) (n : ℕ) → (n ≡ 0 → P) → ((n ≡ 0 → ⊥) → P) → P
-by_zero P n f g = go (eqb n 0) refl
-  where
-    go : (t : Bool) → eqb n 0 ≡ t → P
-    go true e = f (eqb-true n 0 e)
-    go false e = g (eqb-false n 0 e)
-
 -- a call that is not refused, by its answer's number
-given_fits : (o : Outcome) (core : ℕ) (op : Operation) → value_of op < 2 ^ 32 → number_of (act o (give core op)).called.answer ≡ 0 → GoodOperation op
+given_fits : (o : Outcome) (core : ℕ) (op : Operation) → value_of op < 2 ^ 32 → number_in (act o (give core op)).called.answer ≡ 0 → GoodOperation op
 unfolding act
 given_fits o core op small z =
-    let a = give_accepted o.called.machine core op (sym (give_number o.called.machine core op) ∙ z) in
+    let a = give_accepted o.called.machine core op (not_refused _ (sym (give_number o.called.machine core op) ∙ z)) in
     record { address = address_good_lem (address_of op) (sizes_fit_lem o.called.machine a.ranges).most_bytes a.address; value = small }
 
-stepped_small : (o : Outcome) (core : ℕ) → number_of (act o (step core)).called.answer ≡ 0 → core < 8
+stepped_small : (o : Outcome) (core : ℕ) → number_in (act o (step core)).called.answer ≡ 0 → core < 8
 unfolding act
 stepped_small o core z =
-    let a = step_accepted o.called.machine (length o.memory) o.owners o.holders core (sym (step_number o.called.machine o.memory o.owners o.holders core) ∙ z) in
+    let a = step_accepted o.called.machine (length o.memory) o.owners o.holders core (not_refused _ (sym (step_number o.called.machine o.memory o.owners o.holders core) ∙ z)) in
     core_small o.called.machine a.ranges a.core_below
 
-poked_fits : (o : Outcome) (a : GuestAddress) (v : ℕ) → number_of (act o (poke a v)).called.answer ≡ 0 → address_good a.0 ≡ true
+poked_fits : (o : Outcome) (a : GuestAddress) (v : ℕ) → number_in (act o (poke a v)).called.answer ≡ 0 → address_good a.0 ≡ true
 unfolding act
 poked_fits o a v z =
-    let w = word_accepted o.called.machine (length o.memory) a (sym (poke_number o.called.machine o.memory a v) ∙ z) in
+    let w = word_accepted o.called.machine (length o.memory) a (not_refused _ (sym (poke_number o.called.machine o.memory a v) ∙ z)) in
     address_good_lem a (sizes_fit_lem o.called.machine w.ranges).most_bytes w.address
 
 -- a refused call makes no record
-step_silent : (o : Outcome) (core : ℕ) → (number_of (act o (step core)).called.answer ≡ 0 → ⊥) → (act o (step core)).called.made ≡ Nothing
+step_silent : (o : Outcome) (core : ℕ) → (number_in (act o (step core)).called.answer ≡ 0 → ⊥) → (act o (step core)).called.made ≡ None
 unfolding act
 step_silent o core d = (refusal_laws.step_as_found o.called.machine o.memory o.owners o.holders core d).no_record
 
-poke_silent : (o : Outcome) (a : GuestAddress) (v : ℕ) → (number_of (act o (poke a v)).called.answer ≡ 0 → ⊥) → (act o (poke a v)).called.made ≡ Nothing
+poke_silent : (o : Outcome) (a : GuestAddress) (v : ℕ) → (number_in (act o (poke a v)).called.answer ≡ 0 → ⊥) → (act o (poke a v)).called.made ≡ None
 unfolding act
 poke_silent o a v d = (refusal_laws.poke_as_found o.called.machine o.memory a v o.owners o.holders d).no_record
 
 -- an access adds its whole operation, if it was one
-at_access_good : (made : Handed) (w : Whole) (ws : List Whole) → GoodWhole w → GoodWholes ws → GoodWholes (at_access made w ws)
-at_access_good Nothing w ws g rest = rest
-at_access_good (One r) w ws g rest = (g, rest)
+at_access_good : (made : Option Record) (w : Whole) (ws : List Whole) → GoodWhole w → GoodWholes ws → GoodWholes (at_access made w ws)
+at_access_good None w ws g rest = rest
+at_access_good (Some r) w ws g rest = (g, rest)
 
-silent_good : (made : Handed) (w : Whole) (ws : List Whole) → made ≡ Nothing → GoodWholes ws → GoodWholes (at_access made w ws)
-silent_good made w ws e rest = subst (λ (m : Handed). GoodWholes (at_access m w ws)) (sym e) rest
+silent_good : (made : Option Record) (w : Whole) (ws : List Whole) → made ≡ None → GoodWholes ws → GoodWholes (at_access made w ws)
+silent_good made w ws e rest = subst (λ (m : Option Record). GoodWholes (at_access m w ws)) (sym e) rest
 
 module _ (fresh : Outcome) where
   given_good : (c : ℕ) (calls : List Call) → WordsGiven calls → GoodOperations (given_to fresh c calls)
   unfolding given_to
   given_good c [] w = tt
-  given_good c (give core o ∷ calls) w = go (eqb core c) (eqb (number_of (act (after fresh calls) (give core o)).called.answer) 0) refl (given_good c calls w.1)
+  given_good c (give core o ∷ calls) w = go (eqb core c) (eqb (number_in (act (after fresh calls) (give core o)).called.answer) 0) refl (given_good c calls w.1)
     where
-      fits : number_of (act (after fresh calls) (give core o)).called.answer ≡ 0 → GoodOperation o
+      fits : number_in (act (after fresh calls) (give core o)).called.answer ≡ 0 → GoodOperation o
       fits z = given_fits (after fresh calls) core o w.0 z
 
-      go : (s t : Bool) → eqb (number_of (act (after fresh calls) (give core o)).called.answer) 0 ≡ t → GoodOperations (given_to fresh c calls)
+      go : (s t : Bool) → eqb (number_in (act (after fresh calls) (give core o)).called.answer) 0 ≡ t → GoodOperations (given_to fresh c calls)
           → GoodOperations (if s && t then o ∷ given_to fresh c calls else given_to fresh c calls)
       go true true e rest = (fits (eqb-true _ _ e), rest)
       go true false e rest = rest
@@ -162,13 +154,13 @@ module _ (fresh : Outcome) where
       let rest = run_good calls w in
       let made = (act (after fresh calls) (step core)).called.made in
       let op = last_of (given_to fresh core calls) in
-      by_zero (GoodWholes (at_access made (does core op) (in_order fresh calls))) (number_of (act (after fresh calls) (step core)).called.answer)
+      by_zero (GoodWholes (at_access made (does core op) (in_order fresh calls))) (number_in (act (after fresh calls) (step core)).called.answer)
       (λ z. at_access_good made (does core op) (in_order fresh calls) (stepped_small (after fresh calls) core z, last_good (given_to fresh core calls) (given_good core calls w)) rest)
       (λ d. silent_good made (does core op) (in_order fresh calls) (step_silent (after fresh calls) core d) rest)
   run_good (poke a v ∷ calls) w =
       let rest = run_good calls w.1 in
       let made = (act (after fresh calls) (poke a v)).called.made in
-      by_zero (GoodWholes (at_access made (pokes a v) (in_order fresh calls))) (number_of (act (after fresh calls) (poke a v)).called.answer)
+      by_zero (GoodWholes (at_access made (pokes a v) (in_order fresh calls))) (number_in (act (after fresh calls) (poke a v)).called.answer)
       (λ z. at_access_good made (pokes a v) (in_order fresh calls) (poked_fits (after fresh calls) a v z, w.0) rest)
       (λ d. silent_good made (pokes a v) (in_order fresh calls) (poke_silent (after fresh calls) a v d) rest)
 
@@ -180,7 +172,7 @@ zero_bytes (suc k) (suc i) = zero_bytes k i
 
 fresh_bytes : (fresh : Outcome) → Fresh fresh → Bytes fresh.memory
 fresh_bytes fresh f =
-    let z = start_number f.count f.memory f.owners f.holders ∙ f.accepted in
+    let z = start_number f.count f.memory f.owners f.holders ∙ ap number_in f.accepted in
     subst Bytes (sym (ap (λ (o : Outcome). o.memory) f.started ∙ (range_laws.start_zero f.count f.memory f.owners f.holders z).0)) (zero_bytes (length f.memory))
 
 pub records_are_good : RecordsAreGood

@@ -102,7 +102,6 @@ judged_at entry (q ∷ later) r earlier j = judged_at entry later r earlier j.2
 
 -- the number that an sc answers
 abbrev number_in : Answer → ℕ
-number_in (Answered.Refused n) = 2
 number_in Answered.Ready = 2
 number_in Answered.Taken = 2
 number_in Answered.Moved = 2

@@ -1,6 +1,6 @@
 -- How the table stands in a run: from the invariant.
 -- Assumes nothing.
-use Rattle.std.proofs.Common.{if◌then◌else◌}
+use Rattle.std.proofs.Common.{Err, if◌then◌else◌}
 use mathlib.Core.Path.{◌≡◌, refl, sym, ap, subst, ◌∙◌}
 use mathlib.Core.Bool.{Bool, true, false, not, ◌&&◌}
 use mathlib.Core.List.{List}
@@ -13,7 +13,8 @@ use Rattle.rules.specs.Sizes.{written}
 use Rattle.rules.specs.Entry.{entry_of}
 use Rattle.rules.specs.Kinds.{is_load, code_of, address_of}
 use Rattle.rules.specs.Ranges.{core_at, damaged}
-use Rattle.rules.specs.Answers.{number_of}
+use Rattle.rules.specs.Refusals.{Tested, no_refusal, number_in}
+use Rattle.rules.specs.declared.refusals.Refusal.TheVariants.{NoSuchCore, Unaligned, Outside, Damaged, Busy, Idle}
 use Rattle.rules.specs.Calls.{Outcome, address_refusal, entry_at, mark_at, give_refusal, step_refusal, word_refusal}
 use Rattle.rules.specs.History.{Link, link_of}
 use Rattle.rules.specs.Runs.{Call, give, step, poke, Fresh, act, after, records, given_to, delivered_to, in_order, entry_rule}
@@ -31,11 +32,15 @@ use Rattle.promises.specs.Standing.{Inside, Stands, Standing}
 abbrev Mild : ℕ → Type 0
 Mild k = (k ≡ 4 → ⊥) × (k ≡ 5 → ⊥) × (k ≡ 6 → ⊥)
 
-mild : (k : ℕ) → eqb k 4 ≡ false → eqb k 5 ≡ false → eqb k 6 ≡ false → Mild k
-mild k p q r = (eqb-false k 4 p, eqb-false k 5 q, eqb-false k 6 r)
+-- tests that give no such refusal
+abbrev MildTest : Tested → Type 0
+MildTest t = Mild (number_in t)
 
-mild_address : (bytes : ℕ) (a : GuestAddress) → Mild (address_refusal bytes a)
-mild_address bytes a = of_both Mild (not (eqb (a.0 % 4) 0)) (mild 2 refl refl refl) (of_both Mild (leb bytes a.0) (mild 3 refl refl refl) (mild 0 refl refl refl))
+mild : (t : Tested) → eqb (number_in t) 4 ≡ false → eqb (number_in t) 5 ≡ false → eqb (number_in t) 6 ≡ false → MildTest t
+mild t p q r = (eqb-false _ 4 p, eqb-false _ 5 q, eqb-false _ 6 r)
+
+mild_address : (bytes : ℕ) (a : GuestAddress) → MildTest (address_refusal bytes a)
+mild_address bytes a = of_both MildTest (not (eqb (a.0 % 4) 0)) (mild (Err Unaligned) refl refl refl) (of_both MildTest (leb bytes a.0) (mild (Err Outside) refl refl refl) (mild no_refusal refl refl refl))
 
 -- an entry that is not damaged
 and_if : (a b : Bool) → (a ≡ true → b ≡ false) → a && b ≡ false
@@ -125,30 +130,30 @@ module _ (fresh : Outcome) (f : Fresh fresh) (calls : List Call) where
       (λ from. holds_shown c e (inv.phase c) (inv.cores c) (subst (λ (y : Core). 2 ≤ y.next) core from) (subst (λ (y : Core). (entry_rule fresh y.address).0 ≡ e) core here))
       (λ one. outside_shown c e (inv.phase c) (inv.cores c) (subst (λ (y : Core). y.next ≡ 1) core one))
 
-  mild_step : (c : ℕ) → Mild (step_refusal o.called.machine (length o.memory) o.owners o.holders c)
+  mild_step : (c : ℕ) → MildTest (step_refusal o.called.machine (length o.memory) o.owners o.holders c)
   unfolding step_refusal
   mild_step c =
       rw (inv.sound.ranges, inv.sound.lengths)
-      (of_both Mild (leb o.called.machine.count c) (mild 1 refl refl refl) (busy_or_not (core_at o.called.machine c).busy refl))
+      (of_both MildTest (leb o.called.machine.count c) (mild (Err NoSuchCore) refl refl refl) (busy_or_not (core_at o.called.machine c).busy refl))
     where
-      busy_or_not : (t : Bool) → (core_at o.called.machine c).busy ≡ t → Mild (if not (core_at o.called.machine c).busy then 8
-          else if damaged o.called.machine.count c (core_at o.called.machine c) (mark_at o.owners (entry_at o.called.machine c)) (mark_at o.holders (entry_at o.called.machine c)) then 6 else 0)
-      busy_or_not true e = rw (e, whole c) (mild 0 refl refl refl)
-      busy_or_not false e = rw e (mild 8 refl refl refl)
+      busy_or_not : (t : Bool) → (core_at o.called.machine c).busy ≡ t → MildTest (if not (core_at o.called.machine c).busy then Err Idle
+          else if damaged o.called.machine.count c (core_at o.called.machine c) (mark_at o.owners (entry_at o.called.machine c)) (mark_at o.holders (entry_at o.called.machine c)) then Err Damaged else no_refusal)
+      busy_or_not true e = rw (e, whole c) (mild no_refusal refl refl refl)
+      busy_or_not false e = rw e (mild (Err Idle) refl refl refl)
 
-  mild_give : (c : ℕ) (op : Operation) → Mild (give_refusal o.called.machine c op)
+  mild_give : (c : ℕ) (op : Operation) → MildTest (give_refusal o.called.machine c op)
   unfolding give_refusal
   mild_give c op =
       rw inv.sound.ranges
-      (of_both Mild (leb o.called.machine.count c) (mild 1 refl refl refl) (of_both Mild (core_at o.called.machine c).busy (mild 7 refl refl refl) (mild_address o.called.machine.bytes (address_of op))))
+      (of_both MildTest (leb o.called.machine.count c) (mild (Err NoSuchCore) refl refl refl) (of_both MildTest (core_at o.called.machine c).busy (mild (Err Busy) refl refl refl) (mild_address o.called.machine.bytes (address_of op))))
 
-  mild_poke : (a : GuestAddress) → Mild (word_refusal o.called.machine (length o.memory) a)
+  mild_poke : (a : GuestAddress) → MildTest (word_refusal o.called.machine (length o.memory) a)
   unfolding word_refusal
   mild_poke a =
       let l = lent o.called.machine (length o.memory) (length o.owners) (length o.holders) inv.sound.lengths in
       rw (inv.sound.ranges, eq-eqb (length o.memory) o.called.machine.bytes l.memory_length) (mild_address o.called.machine.bytes a)
 
-  mild_call : (call : Call) → Mild (number_of (act o call).called.answer)
+  mild_call : (call : Call) → Mild (number_in (act o call).called.answer)
   unfolding act
   mild_call (give c op) = subst Mild (sym (give_number o.called.machine c op)) (mild_give c op)
   mild_call (step c) = subst Mild (sym (step_number o.called.machine o.memory o.owners o.holders c)) (mild_step c)

@@ -3,7 +3,7 @@ use Rattle.std.specs.Prelude.{◌≡◌, true, false, List, ℕ, ◌≤◌, ◌<
 use Rattle.rules.specs.Sizes.{written}
 use Rattle.rules.specs.Kinds.{is_load}
 use Rattle.rules.specs.Ranges.{core_at}
-use Rattle.rules.specs.Answers.{number_of}
+use Rattle.rules.specs.Refusals.{number_in}
 use Rattle.rules.specs.Calls.{Outcome}
 use Rattle.rules.specs.History.{link_of, owner_of}
 use Rattle.rules.specs.Runs.{Call, Fresh, act, after, records, entry_rule}
@@ -18,9 +18,9 @@ pub record Inside (fresh : Outcome) (c : Core) (e : ℕ) : Type 0 where
 
 pub record Stands (fresh : Outcome) (calls : List Call) : Type 0 where
   -- no call answers 4, 5 or 6
-  pub never_4 : (call : Call) → number_of (act (after fresh calls) call).called.answer ≡ 4 → ⊥
-  pub never_5 : (call : Call) → number_of (act (after fresh calls) call).called.answer ≡ 5 → ⊥
-  pub never_6 : (call : Call) → number_of (act (after fresh calls) call).called.answer ≡ 6 → ⊥
+  pub never_4 : (call : Call) → number_in (act (after fresh calls) call).called.answer ≡ 4 → ⊥
+  pub never_5 : (call : Call) → number_in (act (after fresh calls) call).called.answer ≡ 5 → ⊥
+  pub never_6 : (call : Call) → number_in (act (after fresh calls) call).called.answer ≡ 6 → ⊥
   -- a holder of an entry is exactly the core inside steps 2 to 4 there
   pub holder_inside : (e i : ℕ) → get_or (after fresh calls).holders e 0 ≡ written i → Inside fresh (core_at (after fresh calls).called.machine i) e
   pub inside_holder : (e i : ℕ) → Inside fresh (core_at (after fresh calls).called.machine i) e → get_or (after fresh calls).holders e 0 ≡ written i

@@ -1,9 +1,9 @@
 -- Document 01, "Small runs": "3 cores, 64 bytes, 4 entries, fresh, each operation run whole. Marked P: proved."
-use Rattle.std.specs.Prelude.{◌≡◌, List, [], ◌∷◌, ◌++◌, ℕ, replicate, if◌then◌else◌}
+use Rattle.std.specs.Prelude.{◌≡◌, List, [], ◌∷◌, ◌++◌, ℕ, replicate}
 use Rattle.rules.specs.Word.{read_word}
 use Rattle.rules.specs.Calls.{Outcome, start_of}
 use Rattle.rules.specs.Reference.{Whole, does, pokes}
-use Rattle.rules.specs.Runs.{Call, give, step, poke, act, after, finishes, Fresh}
+use Rattle.rules.specs.Runs.{Call, give, step, poke, act, after, with_answer, Fresh}
 use Rattle.rules.specs.History.{History}
 use Rattle.rules.specs.declared.answers.Record.{Record}
 use Rattle.archive.specs.Check.{fletcher}
@@ -32,7 +32,7 @@ played (w ∷ ws) before = played ws (calls_of w ++ before)
 -- the answers that finish an operation, the latest first
 unfoldable pub finals : List Call → List Answer
 finals [] = []
-finals (call ∷ calls) = if finishes (act (after small calls) call).called.answer then (act (after small calls) call).called.answer ∷ finals calls else finals calls
+finals (call ∷ calls) = with_answer (act (after small calls) call).called.answer (finals calls)
 
 -- the word at an address, at the end of a run
 unfoldable pub word_after : List Call → ℕ → ℕ

@@ -1,6 +1,6 @@
 -- What holds of the state and of the arguments where a call is not refused.
 -- Assumes nothing.
-use Rattle.std.proofs.Common.{◌≡◌, ℕ, zero, suc, ◌+◌, ◌/◌, ◌%◌, ◌<◌, ◌≤◌, Bool, true, false, not, ◌&&◌, ◌||◌, eqb, ltb, leb, List, length, refl, ap, ◌∙◌, mod-lt, arith, ltb-true, eqb-true, leb-false, leb-true, if◌then◌else◌}
+use Rattle.std.proofs.Common.{◌≡◌, ℕ, zero, suc, ◌+◌, ◌/◌, ◌%◌, ◌<◌, ◌≤◌, Bool, true, false, not, ◌&&◌, ◌||◌, eqb, ltb, leb, List, Err, length, refl, ap, ◌∙◌, mod-lt, arith, ltb-true, eqb-true, leb-false, leb-true, if◌then◌else◌}
 use mathlib.Core.Bool.{false≢true}
 use lib.Arith.{lt_of_le-ne}
 use borrow.Author.Tests.{eqb-false, not-false}
@@ -9,6 +9,8 @@ use Rattle.rules.specs.Sizes.{cores_fit, bytes_fit, entries_fit, tables_fit}
 use Rattle.rules.specs.Entry.{entry_of}
 use Rattle.rules.specs.Ranges.{core_at, inside, operation_fields, value_fields, link_fields, operation_fits, addresses_fit, place_fits, core_fits, sizes_fit, every_core_fits, in_ranges, damaged}
 use Rattle.rules.specs.Kinds.{address_of}
+use Rattle.rules.specs.Refusals.{Tested, no_refusal}
+use Rattle.rules.specs.declared.refusals.Refusal.TheVariants.{NoSuchCore, Unaligned, Outside, LentLengths, OutOfRange, Damaged, Busy, Idle}
 use Rattle.rules.specs.Calls.{lent_fits, address_refusal, entry_at, mark_at, start_refusal, give_refusal, step_refusal, word_refusal}
 use Rattle.rules.specs.declared.entry.GuestAddress.{GuestAddress}
 use Rattle.rules.specs.declared.answers.Operation.{Operation}
@@ -111,10 +113,10 @@ busy_inside {bytes = bytes} c f b =
     (and₂ (not c.busy || inside bytes c.address) (not c.linked || inside bytes c.link) f.addresses_fit_lem).0)
 
 -- the address of an operation, a poke or a show that is not refused
-pub address_accepted : (bytes : ℕ) (a : GuestAddress) → address_refusal bytes a ≡ 0 → Inside bytes a
+pub address_accepted : (bytes : ℕ) (a : GuestAddress) → address_refusal bytes a ≡ no_refusal → Inside bytes a
 address_accepted bytes a h =
-    let t = passed_over (not (eqb (a.0 % 4) 0)) 1 (if leb bytes a.0 then 3 else 0) h in
-    let u = passed_over (leb bytes a.0) 2 0 t.1 in
+    let t = passed_over (not (eqb (a.0 % 4) 0)) Unaligned (if leb bytes a.0 then Err Outside else no_refusal) h in
+    let u = passed_over (leb bytes a.0) Outside no_refusal t.1 in
     record { aligned = eqb-true _ _ (not-false _ t.0); below = leb-false _ _ u.0 }
 
 -- a start that is not refused
@@ -124,12 +126,12 @@ pub record StartAccepted (count memory owners holders : ℕ) : Type 0 where
   pub entries : entries_fit owners ≡ true
   pub tables : holders ≡ owners
 
-pub start_accepted : (count memory owners holders : ℕ) → start_refusal count memory owners holders ≡ 0 → StartAccepted count memory owners holders
+pub start_accepted : (count memory owners holders : ℕ) → start_refusal count memory owners holders ≡ no_refusal → StartAccepted count memory owners holders
 unfolding start_refusal
 start_accepted count memory owners holders h =
-    let k₁ : ℕ = if not (cores_fit count) then 1 else 0 in
-    let t₀ = passed_over (not (bytes_fit memory && tables_fit owners holders)) 3 k₁ h in
-    let t₁ = passed_over (not (cores_fit count)) 0 0 t₀.1 in
+    let k₁ : Tested = if not (cores_fit count) then Err NoSuchCore else no_refusal in
+    let t₀ = passed_over (not (bytes_fit memory && tables_fit owners holders)) LentLengths k₁ h in
+    let t₁ = passed_over (not (cores_fit count)) NoSuchCore no_refusal t₀.1 in
     let b = and₂ (bytes_fit memory) (tables_fit owners holders) (not-false _ t₀.0) in
     let e = and₂ (entries_fit owners) (eqb holders owners) b.1 in
     record { cores = not-false _ t₁.0; bytes = b.0; entries = e.0; tables = eqb-true _ _ e.1 }
@@ -141,15 +143,15 @@ pub record GiveAccepted (m : Machine) (core : ℕ) (o : Operation) : Type 0 wher
   pub idle : (core_at m core).busy ≡ false
   pub address : Inside m.bytes (address_of o)
 
-pub give_accepted : (m : Machine) (core : ℕ) (o : Operation) → give_refusal m core o ≡ 0 → GiveAccepted m core o
+pub give_accepted : (m : Machine) (core : ℕ) (o : Operation) → give_refusal m core o ≡ no_refusal → GiveAccepted m core o
 unfolding give_refusal
 give_accepted m core o h =
     let k₃ = address_refusal m.bytes (address_of o) in
-    let k₂ : ℕ = if (core_at m core).busy then 7 else k₃ in
-    let k₁ : ℕ = if leb m.count core then 1 else k₂ in
-    let t₀ = passed_over (not (in_ranges m)) 4 k₁ h in
-    let t₁ = passed_over (leb m.count core) 0 k₂ t₀.1 in
-    let t₂ = passed_over (core_at m core).busy 6 k₃ t₁.1 in
+    let k₂ : Tested = if (core_at m core).busy then Err Busy else k₃ in
+    let k₁ : Tested = if leb m.count core then Err NoSuchCore else k₂ in
+    let t₀ = passed_over (not (in_ranges m)) OutOfRange k₁ h in
+    let t₁ = passed_over (leb m.count core) NoSuchCore k₂ t₀.1 in
+    let t₂ = passed_over (core_at m core).busy Busy k₃ t₁.1 in
     record { ranges = not-false _ t₀.0; core_below = leb-false _ _ t₁.0; idle = t₂.0; address = address_accepted _ _ t₂.1 }
 
 -- lent lengths that are the state's
@@ -171,19 +173,19 @@ pub record StepAccepted (m : Machine) (memory : ℕ) (owners holders : List ℕ)
   pub busy : (core_at m core).busy ≡ true
   pub whole : damaged m.count core (core_at m core) (mark_at owners (entry_at m core)) (mark_at holders (entry_at m core)) ≡ false
 
-pub step_accepted : (m : Machine) (memory : ℕ) (owners holders : List ℕ) (core : ℕ) → step_refusal m memory owners holders core ≡ 0 → StepAccepted m memory owners holders core
+pub step_accepted : (m : Machine) (memory : ℕ) (owners holders : List ℕ) (core : ℕ) → step_refusal m memory owners holders core ≡ no_refusal → StepAccepted m memory owners holders core
 unfolding step_refusal
 step_accepted m memory owners holders core h =
     let hurt = damaged m.count core (core_at m core) (mark_at owners (entry_at m core)) (mark_at holders (entry_at m core)) in
-    let k₄ : ℕ = if hurt then 6 else 0 in
-    let k₃ : ℕ = if not (core_at m core).busy then 8 else k₄ in
-    let k₂ : ℕ = if leb m.count core then 1 else k₃ in
-    let k₁ : ℕ = if not (lent_fits m memory (length owners) (length holders)) then 4 else k₂ in
-    let t₀ = passed_over (not (in_ranges m)) 4 k₁ h in
-    let t₁ = passed_over (not (lent_fits m memory (length owners) (length holders))) 3 k₂ t₀.1 in
-    let t₂ = passed_over (leb m.count core) 0 k₃ t₁.1 in
-    let t₃ = passed_over (not (core_at m core).busy) 7 k₄ t₂.1 in
-    let t₄ = passed_over hurt 5 0 t₃.1 in
+    let k₄ : Tested = if hurt then Err Damaged else no_refusal in
+    let k₃ : Tested = if not (core_at m core).busy then Err Idle else k₄ in
+    let k₂ : Tested = if leb m.count core then Err NoSuchCore else k₃ in
+    let k₁ : Tested = if not (lent_fits m memory (length owners) (length holders)) then Err LentLengths else k₂ in
+    let t₀ = passed_over (not (in_ranges m)) OutOfRange k₁ h in
+    let t₁ = passed_over (not (lent_fits m memory (length owners) (length holders))) LentLengths k₂ t₀.1 in
+    let t₂ = passed_over (leb m.count core) NoSuchCore k₃ t₁.1 in
+    let t₃ = passed_over (not (core_at m core).busy) Idle k₄ t₂.1 in
+    let t₄ = passed_over hurt Damaged no_refusal t₃.1 in
     record {
       ranges = not-false _ t₀.0;
       lengths = lent m memory (length owners) (length holders) (not-false _ t₁.0);
@@ -198,13 +200,13 @@ pub record WordAccepted (m : Machine) (memory : ℕ) (a : GuestAddress) : Type 0
   pub memory_length : memory ≡ m.bytes
   pub address : Inside m.bytes a
 
-pub word_accepted : (m : Machine) (memory : ℕ) (a : GuestAddress) → word_refusal m memory a ≡ 0 → WordAccepted m memory a
+pub word_accepted : (m : Machine) (memory : ℕ) (a : GuestAddress) → word_refusal m memory a ≡ no_refusal → WordAccepted m memory a
 unfolding word_refusal
 word_accepted m memory a h =
     let k₂ = address_refusal m.bytes a in
-    let k₁ : ℕ = if not (eqb memory m.bytes) then 4 else k₂ in
-    let t₀ = passed_over (not (in_ranges m)) 4 k₁ h in
-    let t₁ = passed_over (not (eqb memory m.bytes)) 3 k₂ t₀.1 in
+    let k₁ : Tested = if not (eqb memory m.bytes) then Err LentLengths else k₂ in
+    let t₀ = passed_over (not (in_ranges m)) OutOfRange k₁ h in
+    let t₁ = passed_over (not (eqb memory m.bytes)) LentLengths k₂ t₀.1 in
     record { ranges = not-false _ t₀.0; memory_length = eqb-true _ _ (not-false _ t₁.0); address = address_accepted _ _ t₁.1 }
 
 -- the word that such a call reads or writes lies in the lent memory

@@ -1,7 +1,10 @@
 -- What a test that holds, or a refusal that is not given, says of its parts.
 -- Assumes nothing.
-use Rattle.std.proofs.Common.{◌≡◌, ℕ, suc, Bool, true, false, not, ◌&&◌, ◌||◌, sym, refl, true≢false, arith, if◌then◌else◌}
+use Rattle.std.proofs.Common.{◌≡◌, ℕ, zero, suc, ◌<◌, Bool, true, false, not, ◌&&◌, ◌||◌, Err, is_err, sym, refl, ap, true≢false, arith, if◌then◌else◌}
 use mathlib.Core.Bool.{false≢true}
+use Rattle.rules.specs.Basics.{all_below}
+use Rattle.rules.specs.Refusals.{Tested, no_refusal}
+use Rattle.rules.specs.declared.refusals.Refusal.{Refusal}
 
 pub and₂ : (a b : Bool) → a && b ≡ true → (a ≡ true) × (b ≡ true)
 and₂ true b h = (refl, h)
@@ -29,6 +32,11 @@ same true b p q = sym (p refl)
 same false true p q = q refl
 same false false p q = refl
 
+-- a choice of one and the same
+pub either_way : {A : Type 0} (t : Bool) (a : A) → (if t then a else a) ≡ a
+either_way true a = refl
+either_way false a = refl
+
 -- a test of what is in use, where it is in use
 pub in_use : (a b : Bool) → a ≡ true → not a || b ≡ true → b ≡ true
 in_use true b p h = h
@@ -40,6 +48,11 @@ not_in_use true b p h = absurd (true≢false p)
 not_in_use false b p h = h
 
 -- a refusal that was not given: its test failed, and the refusals after it were not given
-pub passed_over : (t : Bool) (n k : ℕ) → (if t then suc n else k) ≡ 0 → (t ≡ false) × (k ≡ 0)
-passed_over true n k h = absurd (omega arith)
-passed_over false n k h = (refl, h)
+pub passed_over : (t : Bool) (r : Refusal) (rest : Tested) → (if t then Err r else rest) ≡ no_refusal → (t ≡ false) × (rest ≡ no_refusal)
+passed_over true r rest h = absurd (true≢false (ap is_err h))
+passed_over false r rest h = (refl, h)
+
+-- what holds of each number below n
+pub all_below_lem : (n : ℕ) (test : ℕ → Bool) → ((i : ℕ) → i < n → test i ≡ true) → all_below n test ≡ true
+all_below_lem zero test each = refl
+all_below_lem (suc n) test each = rw (all_below_lem n test (λ i l. each i (omega arith)), each n (omega arith))

@@ -1,10 +1,12 @@
--- Every two outcomes that a public function's contract allows on one input are equal. One argument serves all.
+-- Every two outcomes that a public function's contract allows on one input are equal. Some argument serves all.
 -- Assumes nothing.
 use Rattle.std.proofs.Common.{◌≡◌, ℕ}
 use contract.Lifetimes.{Lfts}
 use borrow.Fn.World.{ArgsD}
 use borrow.Fn.Kinds.{ended_of}
 use denote.Triple.Clauses.{AtExit}
+use denote.RattleType.{RattleType}
+use denote.Param.Laws.{Laws}
 use Rattle.rules.specs.declared.entry.GuestAddress.{GuestAddress}
 use Rattle.rules.specs.declared.entry.EntryNumber.{EntryNumber}
 use Rattle.rules.specs.declared.cores.Core.{Core}
@@ -27,9 +29,12 @@ use Rattle.rules.proofs.answers.Operation.address.Reads as address-reads
 use Rattle.rules.specs.contracts.answers.Operation.value as value
 use Rattle.rules.proofs.answers.Operation.value.Kinds as value-kinds
 use Rattle.rules.proofs.answers.Operation.value.Reads as value-reads
-use Rattle.rules.specs.contracts.answers.Answer.number as number
-use Rattle.rules.proofs.answers.Answer.number.Kinds as number-kinds
-use Rattle.rules.proofs.answers.Answer.number.Reads as number-reads
+use Rattle.rules.specs.contracts.refusals.Refusal.number as number
+use Rattle.rules.proofs.refusals.Refusal.number.Kinds as number-kinds
+use Rattle.rules.proofs.refusals.Refusal.number.Reads as number-reads
+use Rattle.rules.specs.contracts.refusals.number_of as number-of
+use Rattle.rules.proofs.refusals.number_of.Kinds as number-of-kinds
+use Rattle.rules.proofs.refusals.number_of.Reads as number-of-reads
 use Rattle.rules.specs.contracts.cores.Core.idle as idle
 use Rattle.rules.proofs.cores.Core.idle.Kinds as idle-kinds
 use Rattle.rules.proofs.cores.Core.idle.Reads as idle-reads
@@ -96,3 +101,7 @@ module _ (κs : Lfts 0) (a : ArgsD refused.signature κs) (one other : Called) (
 module _ (κs : Lfts 0) (a : ArgsD answered.signature κs) (one other : Called) (s t : AtExit (ended_of 0 answered-kinds.ps answered-kinds.r) κs) where
   pub answered_determined : answered-reads.Post κs a one s → answered-reads.Post κs a other t → one ≡ other
   answered_determined p q = one-outcome Called _ _ _ p q
+
+module _ (T : RattleType) (L : Laws T) (κs : Lfts 2) (a : ArgsD (number-of.signature T) κs) (one other : ℕ) (s t : AtExit (ended_of 2 (number-of-kinds.ps T L) (number-of-kinds.r T L)) κs) where
+  pub number_of_determined : number-of-reads.Post T L κs a one s → number-of-reads.Post T L κs a other t → one ≡ other
+  number_of_determined p q = one-outcome ℕ _ _ _ p q

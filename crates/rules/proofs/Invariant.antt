@@ -1,14 +1,13 @@
 -- Every call of a run keeps the invariant, and a fresh machine has it: so it holds after every list of calls.
 -- Assumes nothing.
-use Rattle.std.proofs.Common.{◌≡◌, ℕ, zero, suc, ◌<◌, Bool, true, false, eqb, List, [], ◌∷◌, length, get_or, set, replicate, sym, refl, ap, ◌∙◌, subst, inl, inr, true≢false, arith, eq-eqb, ne_eqb, eqb-true, if◌then◌else◌}
+use Rattle.std.proofs.Common.{◌≡◌, ℕ, zero, suc, ◌<◌, Bool, true, false, eqb, List, [], ◌∷◌, Option, Some, None, Ok, Err, length, get_or, set, replicate, sym, refl, ap, ◌∙◌, subst, inl, inr, true≢false, arith, ne_eqb, eqb-true, if◌then◌else◌}
 use lib.Seq.{set-get_or}
-use borrow.Author.Tests.{eqb-false}
 use Rattle.rules.specs.Sizes.{written}
 use Rattle.rules.specs.Entry.{entry_of}
 use Rattle.rules.specs.Word.{read_word, write_word}
 use Rattle.rules.specs.Life.{idle, given, micro_step, moves}
 use Rattle.rules.specs.Ranges.{core_at}
-use Rattle.rules.specs.Answers.{number_of}
+use Rattle.rules.specs.Refusals.{Tested, no_refusal, refusal_number, number_in}
 use Rattle.rules.specs.Calls.{Outcome, outcome, refused, answered, started, with_core, start_refusal, start_of, give_refusal, give_of, step_refusal, step_of, stepped, micro_step_at, word_refusal, poke_of}
 use Rattle.rules.specs.Laws.{Sound, AsFound}
 use Rattle.rules.specs.History.{History, link_of, owner_of}
@@ -17,17 +16,19 @@ use Rattle.rules.specs.Reference.{Whole, access_of, refer, operations_of, answer
 use Rattle.rules.specs.Runs.{Call, step, give, poke, act, Fresh, after, records, given_to, delivered_to, in_order, taken, delivers}
 use Rattle.rules.specs.declared.entry.GuestAddress.{GuestAddress}
 use Rattle.rules.specs.declared.answers.Operation.{Operation}
+use Rattle.rules.specs.declared.answers.Record.{Record}
+use Rattle.rules.specs.declared.refusals.Refusal.{Refusal}
 use Rattle.rules.specs.declared.answers.Answer.{Answer}
 use Rattle.rules.specs.declared.answers.Answer.TheVariants as Answered
-use Rattle.rules.specs.declared.answers.Handed.{Handed}
-use Rattle.rules.specs.declared.answers.Handed.TheVariants.{Nothing, One}
 use Rattle.rules.specs.declared.cores.Core.{Core}
 use Rattle.rules.specs.declared.cores.MicroStep.{MicroStep}
 use Rattle.rules.specs.declared.state.Machine.{Machine}
 use Rattle.rules.proofs.Accepted.{core_small, sizes_fit_lem, entry_below, start_accepted, give_accepted, StepAccepted, step_accepted}
 use Rattle.rules.proofs.Kept.{idle_anywhere}
 use Rattle.rules.proofs.Lawful.{refusal_laws, range_laws, started_sound}
+use Rattle.rules.proofs.Numbers.{by_zero, refusals_numbered}
 use Rattle.rules.proofs.Judging.{and_no}
+use Rattle.rules.proofs.Bools.{either_way}
 use Rattle.rules.proofs.Phases.{Locked, place_of, Phase, rests, loads, asks, holds, reaches, leaves, picture, load_step_lem, ask_step, hold_step, reach_step, leave_step_lem}
 use Rattle.rules.proofs.Running.{CoreOk, Inv, Next, no_mark}
 use Rattle.rules.proofs.Transitions.{carried, given_next, poked_next, loaded_next, lock_next, mark_next, access_next, leave_next, judged_right}
@@ -36,64 +37,58 @@ use Rattle.rules.proofs.Transitions.{carried, given_next, poked_next, loaded_nex
 found_sound : (x o : Outcome) → AsFound x o.called.machine o.memory o.owners o.holders → Sound o → Sound x
 found_sound x o f s = record { ranges = rw f.machine_as_found s.ranges; lengths = rw (f.machine_as_found, f.memory_as_found, f.owners_as_found, f.holders_as_found) s.lengths }
 
--- by whether a number is 0
-by_zero : (P : Type 0) (n : ℕ) → (n ≡ 0 → P) → ((n ≡ 0 → ⊥) → P) → P
-by_zero P n yes' no' = go (eqb n 0) refl
-  where
-    go : (t : Bool) → eqb n 0 ≡ t → P
-    go true e = yes' (eqb-true n 0 e)
-    go false e = no' (eqb-false n 0 e)
+-- by whether a call's tests refuse it
+by_tested : (P : Type 0) (t : Tested) → (t ≡ no_refusal → P) → ((r : Refusal) → t ≡ Err r → P) → P
+by_tested P (Ok u) yes' no' = yes' refl
+by_tested P (Err r) yes' no' = no' r refl
 
 pub sound_act : (o : Outcome) → Sound o → (call : Call) → Sound (act o call)
 unfolding act
 sound_act o s (give c op) =
-    by_zero (Sound (outcome (give_of o.called.machine c op) o.memory o.owners o.holders)) (number_of (give_of o.called.machine c op).answer)
+    by_zero (Sound (outcome (give_of o.called.machine c op) o.memory o.owners o.holders)) (number_in (give_of o.called.machine c op).answer)
     (range_laws.give_sound o.called.machine c op o.memory o.owners o.holders s.lengths)
     (λ f. found_sound (outcome (give_of o.called.machine c op) o.memory o.owners o.holders) o (refusal_laws.give_as_found o.called.machine c op o.memory o.owners o.holders f) s)
 sound_act o s (step c) =
-    by_zero (Sound (step_of o.called.machine o.memory o.owners o.holders c)) (number_of (step_of o.called.machine o.memory o.owners o.holders c).called.answer)
+    by_zero (Sound (step_of o.called.machine o.memory o.owners o.holders c)) (number_in (step_of o.called.machine o.memory o.owners o.holders c).called.answer)
     (range_laws.step_sound o.called.machine o.memory o.owners o.holders c)
     (λ f. found_sound (step_of o.called.machine o.memory o.owners o.holders c) o (refusal_laws.step_as_found o.called.machine o.memory o.owners o.holders c f) s)
 sound_act o s (poke a v) =
-    by_zero (Sound (outcome (poke_of o.called.machine o.memory a v).called (poke_of o.called.machine o.memory a v).memory o.owners o.holders)) (number_of (poke_of o.called.machine o.memory a v).called.answer)
+    by_zero (Sound (outcome (poke_of o.called.machine o.memory a v).called (poke_of o.called.machine o.memory a v).memory o.owners o.holders)) (number_in (poke_of o.called.machine o.memory a v).called.answer)
     (range_laws.poke_sound o.called.machine o.memory a v o.owners o.holders s.lengths)
     (λ f. found_sound (outcome (poke_of o.called.machine o.memory a v).called (poke_of o.called.machine o.memory a v).memory o.owners o.holders) o (refusal_laws.poke_as_found o.called.machine o.memory a v o.owners o.holders f) s)
 
 -- what a step that is not refused leaves, by the core that makes it and by its micro-step
-stepped_as : (n : ℕ) (o : Outcome) (c : ℕ) (core : Core) (s : MicroStep) → o.called.machine.entries ≡ n → step_refusal o.called.machine (length o.memory) o.owners o.holders c ≡ 0
+stepped_as : (n : ℕ) (o : Outcome) (c : ℕ) (core : Core) (s : MicroStep) → o.called.machine.entries ≡ n → step_refusal o.called.machine (length o.memory) o.owners o.holders c ≡ no_refusal
     → core_at o.called.machine c ≡ core
     → micro_step c core (get_or o.owners (entry_of n core.address).0 0) (get_or o.holders (entry_of n core.address).0 0) (read_word o.memory core.address) ≡ s
-    → act o (step c) ≡ outcome (record { answer = s.answer; made = s.made; machine = with_core o.called.machine c s.core })
+    → act o (step c) ≡ outcome (record { answer = Ok s.answer; made = s.made; machine = with_core o.called.machine c s.core })
     (if s.writes then write_word o.memory core.address core.value else o.memory) (set o.owners (entry_of n core.address).0 s.owner) (set o.holders (entry_of n core.address).0 s.holder)
 unfolding act step_of stepped micro_step_at
-stepped_as n o c core s same z p q = rw (eq-eqb _ _ z, p, same, q)
+stepped_as n o c core s same z p q = rw (z, p, same, q)
 
 -- what the other calls leave
 module _ (o : Outcome) where
-  give_done : (c : ℕ) (op : Operation) → give_refusal o.called.machine c op ≡ 0
+  give_done : (c : ℕ) (op : Operation) → give_refusal o.called.machine c op ≡ no_refusal
       → act o (give c op) ≡ outcome (answered Answered.Taken (with_core o.called.machine c (given (core_at o.called.machine c) op))) o.memory o.owners o.holders
   unfolding act give_of
-  give_done c op z = rw (eq-eqb _ _ z)
+  give_done c op z = rw z
 
-  give_refused : (c : ℕ) (op : Operation) → (give_refusal o.called.machine c op ≡ 0 → ⊥)
-      → act o (give c op) ≡ outcome (refused (give_refusal o.called.machine c op) o.called.machine) o.memory o.owners o.holders
+  give_refused : (c : ℕ) (op : Operation) (r : Refusal) → give_refusal o.called.machine c op ≡ Err r → act o (give c op) ≡ outcome (refused r o.called.machine) o.memory o.owners o.holders
   unfolding act give_of
-  give_refused c op d = rw (ne_eqb _ _ d)
+  give_refused c op r z = rw z
 
-  step_refused : (c : ℕ) → (step_refusal o.called.machine (length o.memory) o.owners o.holders c ≡ 0 → ⊥)
-      → act o (step c) ≡ outcome (refused (step_refusal o.called.machine (length o.memory) o.owners o.holders c) o.called.machine) o.memory o.owners o.holders
+  step_refused : (c : ℕ) (r : Refusal) → step_refusal o.called.machine (length o.memory) o.owners o.holders c ≡ Err r → act o (step c) ≡ outcome (refused r o.called.machine) o.memory o.owners o.holders
   unfolding act step_of
-  step_refused c d = rw (ne_eqb _ _ d)
+  step_refused c r z = rw z
 
-  poke_done : (a : GuestAddress) (v : ℕ) → word_refusal o.called.machine (length o.memory) a ≡ 0
-      → act o (poke a v) ≡ outcome (record { answer = Answered.Poked; made = One (access_of poke_core poke_kind a v); machine = o.called.machine }) (write_word o.memory a v) o.owners o.holders
+  poke_done : (a : GuestAddress) (v : ℕ) → word_refusal o.called.machine (length o.memory) a ≡ no_refusal
+      → act o (poke a v) ≡ outcome (record { answer = Ok Answered.Poked; made = Some (access_of poke_core poke_kind a v); machine = o.called.machine }) (write_word o.memory a v) o.owners o.holders
   unfolding act poke_of
-  poke_done a v z = rw (eq-eqb _ _ z)
+  poke_done a v z = rw z
 
-  poke_refused : (a : GuestAddress) (v : ℕ) → (word_refusal o.called.machine (length o.memory) a ≡ 0 → ⊥)
-      → act o (poke a v) ≡ outcome (refused (word_refusal o.called.machine (length o.memory) a) o.called.machine) o.memory o.owners o.holders
+  poke_refused : (a : GuestAddress) (v : ℕ) (r : Refusal) → word_refusal o.called.machine (length o.memory) a ≡ Err r → act o (poke a v) ≡ outcome (refused r o.called.machine) o.memory o.owners o.holders
   unfolding act poke_of
-  poke_refused a v d = rw (ne_eqb _ _ d)
+  poke_refused a v r z = rw z
 
 module _ (n : ℕ) (zeros : List ℕ) (o : Outcome) (h : History) (ws : List Whole) (gs : ℕ → List Operation) (ds : ℕ → List Answer) (inv : Inv n zeros o h ws gs ds) where
   abbrev After : Call → Outcome → Type 0
@@ -104,28 +99,28 @@ module _ (n : ℕ) (zeros : List ℕ) (o : Outcome) (h : History) (ws : List Who
   leaves_as call x e f = subst (After call) (sym e) (f (subst Sound e (sound_act o inv.sound call)))
 
   -- a call that is refused
-  refused_give : (c : ℕ) (op : Operation) (k : ℕ) → (k ≡ 0 → ⊥) → After (give c op) (outcome (refused k o.called.machine) o.memory o.owners o.holders)
-  refused_give c op k d =
-      carried n zeros o h ws gs ds inv (Answered.Refused k) Nothing (λ i. taken i (give c op) (Answered.Refused k) (gs i)) ds (λ i. rw (ne_eqb k 0 d, and_no (eqb c i))) (λ i. refl)
+  refused_give : (c : ℕ) (op : Operation) (r : Refusal) → After (give c op) (outcome (refused r o.called.machine) o.memory o.owners o.holders)
+  refused_give c op r =
+      carried n zeros o h ws gs ds inv (Err r) None (λ i. taken i (give c op) (Err r) (gs i)) ds (λ i. rw (ne_eqb (refusal_number r) 0 (refusals_numbered r), and_no (eqb c i))) (λ i. refl)
 
-  refused_step : (c k : ℕ) → After (step c) (outcome (refused k o.called.machine) o.memory o.owners o.holders)
-  refused_step c k = carried n zeros o h ws gs ds inv (Answered.Refused k) Nothing gs (λ i. delivers i (step c) (Answered.Refused k) (ds i)) (λ i. refl) (λ i. rw (and_no (eqb c i)))
+  refused_step : (c : ℕ) (r : Refusal) → After (step c) (outcome (refused r o.called.machine) o.memory o.owners o.holders)
+  refused_step c r = carried n zeros o h ws gs ds inv (Err r) None gs (λ i. delivers i (step c) (Err r) (ds i)) (λ i. refl) (λ i. either_way (eqb c i) (ds i))
 
   next_give : (c : ℕ) (op : Operation) → After (give c op) (act o (give c op))
   next_give c op =
-      by_zero (After (give c op) (act o (give c op))) (give_refusal o.called.machine c op)
+      by_tested (After (give c op) (act o (give c op))) (give_refusal o.called.machine c op)
       (λ z. let a = give_accepted o.called.machine c op z in
       leaves_as (give c op) _ (give_done o c op z) (given_next n zeros o h ws gs ds inv c op (core_small o.called.machine a.ranges a.core_below) a.idle))
-      (λ d. leaves_as (give c op) _ (give_refused o c op d) (λ s. refused_give c op (give_refusal o.called.machine c op) d))
+      (λ r z. leaves_as (give c op) _ (give_refused o c op r z) (λ s. refused_give c op r))
 
   next_poke : (a : GuestAddress) (v : ℕ) → After (poke a v) (act o (poke a v))
   next_poke a v =
-      by_zero (After (poke a v) (act o (poke a v))) (word_refusal o.called.machine (length o.memory) a)
+      by_tested (After (poke a v) (act o (poke a v))) (word_refusal o.called.machine (length o.memory) a)
       (λ z. leaves_as (poke a v) _ (poke_done o a v z) (poked_next n zeros o h ws gs ds inv a v))
-      (λ d. leaves_as (poke a v) _ (poke_refused o a v d) (λ s. carried n zeros o h ws gs ds inv (Answered.Refused (word_refusal o.called.machine (length o.memory) a)) Nothing gs ds (λ i. refl) (λ i. refl)))
+      (λ r z. leaves_as (poke a v) _ (poke_refused o a v r z) (λ s. carried n zeros o h ws gs ds inv (Err r) None gs ds (λ i. refl) (λ i. refl)))
 
   -- a step that is not refused, by the phase that its core is in
-  module _ (c : ℕ) (z : step_refusal o.called.machine (length o.memory) o.owners o.holders c ≡ 0) where
+  module _ (c : ℕ) (z : step_refusal o.called.machine (length o.memory) o.owners o.holders c ≡ no_refusal) where
     accepted : StepAccepted o.called.machine (length o.memory) o.owners o.holders c
     accepted = step_accepted o.called.machine (length o.memory) o.owners o.holders c z
 
@@ -147,18 +142,18 @@ module _ (n : ℕ) (zeros : List ℕ) (o : Outcome) (h : History) (ws : List Who
     holderHere a = get_or o.holders (entry_of n a).0 0
 
     leaves_stepped : (core : Core) (s : MicroStep) → core_at o.called.machine c ≡ core → micro_step c core (ownerHere core.address) (holderHere core.address) (read_word o.memory core.address) ≡ s
-        → (Sound (outcome (record { answer = s.answer; made = s.made; machine = with_core o.called.machine c s.core })
+        → (Sound (outcome (record { answer = Ok s.answer; made = s.made; machine = with_core o.called.machine c s.core })
         (if s.writes then write_word o.memory core.address core.value else o.memory) (set o.owners (entry_of n core.address).0 s.owner) (set o.holders (entry_of n core.address).0 s.holder))
-        → After (step c) (outcome (record { answer = s.answer; made = s.made; machine = with_core o.called.machine c s.core })
+        → After (step c) (outcome (record { answer = Ok s.answer; made = s.made; machine = with_core o.called.machine c s.core })
         (if s.writes then write_word o.memory core.address core.value else o.memory) (set o.owners (entry_of n core.address).0 s.owner) (set o.holders (entry_of n core.address).0 s.holder)))
         → After (step c) (act o (step c))
     leaves_stepped core s p q f = leaves_as (step c) _ (stepped_as n o c core s inv.same z p q) f
 
     -- owners and holders that are set to what they were
-    marks_kept : (answer : Answer) (made : Handed) (y : Core) (e : ℕ)
-        → outcome (record { answer = answer; made = made; machine = with_core o.called.machine c y }) o.memory (set o.owners e (get_or o.owners e 0)) (set o.holders e (get_or o.holders e 0))
-        ≡ outcome (record { answer = answer; made = made; machine = with_core o.called.machine c y }) o.memory o.owners o.holders
-    marks_kept answer made y e = λ i. outcome (record { answer = answer; made = made; machine = with_core o.called.machine c y }) o.memory (set-get_or o.owners e 0 i) (set-get_or o.holders e 0 i)
+    marks_kept : (answer : Answer) (made : Option Record) (y : Core) (e : ℕ)
+        → outcome (record { answer = Ok answer; made = made; machine = with_core o.called.machine c y }) o.memory (set o.owners e (get_or o.owners e 0)) (set o.holders e (get_or o.holders e 0))
+        ≡ outcome (record { answer = Ok answer; made = made; machine = with_core o.called.machine c y }) o.memory o.owners o.holders
+    marks_kept answer made y e = λ i. outcome (record { answer = Ok answer; made = made; machine = with_core o.called.machine c y }) o.memory (set-get_or o.owners e 0 i) (set-get_or o.holders e 0 i)
 
     -- a core that is set to what it was
     machine_same : (y : Core) → core_at o.called.machine c ≡ y → with_core o.called.machine c y ≡ o.called.machine
@@ -168,25 +163,25 @@ module _ (n : ℕ) (zeros : List ℕ) (o : Outcome) (h : History) (ws : List Who
 
     -- waiting changes nothing
     abbrev waiting : Locked → MicroStep
-    waiting l = record { answer = Answered.Waits; made = Nothing; core = picture (asks l) (link_of c h); owner = ownerHere (place_of l); holder = holderHere (place_of l); writes = false }
+    waiting l = record { answer = Answered.Waits; made = None; core = picture (asks l) (link_of c h); owner = ownerHere (place_of l); holder = holderHere (place_of l); writes = false }
 
     waited : (l : Locked) → core_at o.called.machine c ≡ picture (asks l) (link_of c h)
-        → outcome (record { answer = Answered.Waits; made = Nothing; machine = with_core o.called.machine c (picture (asks l) (link_of c h)) }) o.memory
+        → outcome (record { answer = Ok Answered.Waits; made = None; machine = with_core o.called.machine c (picture (asks l) (link_of c h)) }) o.memory
         (set o.owners (entry_of n (place_of l)).0 (ownerHere (place_of l))) (set o.holders (entry_of n (place_of l)).0 (holderHere (place_of l)))
-        ≡ outcome (record { answer = Answered.Waits; made = Nothing; machine = o.called.machine }) o.memory o.owners o.holders
+        ≡ outcome (record { answer = Ok Answered.Waits; made = None; machine = o.called.machine }) o.memory o.owners o.holders
     waited l p =
-        marks_kept Answered.Waits Nothing (picture (asks l) (link_of c h)) (entry_of n (place_of l)).0
-        ∙ ap (λ (m : Machine). outcome (record { answer = Answered.Waits; made = Nothing; machine = m }) o.memory o.owners o.holders) (machine_same (picture (asks l) (link_of c h)) p)
+        marks_kept Answered.Waits None (picture (asks l) (link_of c h)) (entry_of n (place_of l)).0
+        ∙ ap (λ (m : Machine). outcome (record { answer = Ok Answered.Waits; made = None; machine = m }) o.memory o.owners o.holders) (machine_same (picture (asks l) (link_of c h)) p)
 
-    waits_next : After (step c) (outcome (record { answer = Answered.Waits; made = Nothing; machine = o.called.machine }) o.memory o.owners o.holders)
-    waits_next = carried n zeros o h ws gs ds inv Answered.Waits Nothing gs (λ i. delivers i (step c) Answered.Waits (ds i)) (λ i. refl) (λ i. rw (and_no (eqb c i)))
+    waits_next : After (step c) (outcome (record { answer = Ok Answered.Waits; made = None; machine = o.called.machine }) o.memory o.owners o.holders)
+    waits_next = carried n zeros o h ws gs ds inv (Ok Answered.Waits) None gs (λ i. delivers i (step c) (Ok Answered.Waits) (ds i)) (λ i. refl) (λ i. either_way (eqb c i) (ds i))
 
     by_phase : (p : Phase) → CoreOk n zeros o h ws c p (gs c) (ds c) → After (step c) (act o (step c))
     by_phase rests ok = absurd (true≢false (sym accepted.busy ∙ ap (λ (y : Core). y.busy) ok.core))
     by_phase (loads a) ok =
         leaves_stepped (picture (loads a) (link_of c h)) _ ok.core (load_step_lem c (link_of c h) (ownerHere a) (holderHere a) (read_word o.memory a) a)
-        (λ s. subst (After (step c)) (sym (marks_kept (Answered.Load (read_word o.memory a)) (One (access_of c 1 a (read_word o.memory a))) (picture rests (link_of c h)) (entry_of n a).0))
-        (loaded_next n zeros o h ws gs ds inv c a small ok (subst Sound (marks_kept (Answered.Load (read_word o.memory a)) (One (access_of c 1 a (read_word o.memory a))) (picture rests (link_of c h)) (entry_of n a).0) s)))
+        (λ s. subst (After (step c)) (sym (marks_kept (Answered.Load (read_word o.memory a)) (Some (access_of c 1 a (read_word o.memory a))) (picture rests (link_of c h)) (entry_of n a).0))
+        (loaded_next n zeros o h ws gs ds inv c a small ok (subst Sound (marks_kept (Answered.Load (read_word o.memory a)) (Some (access_of c 1 a (read_word o.memory a))) (picture rests (link_of c h)) (entry_of n a).0) s)))
     by_phase (asks l) ok = free_or_not (eqb (holderHere (place_of l)) 0) refl
       where
         step_one : micro_step c (picture (asks l) (link_of c h)) (ownerHere (place_of l)) (holderHere (place_of l)) (read_word o.memory (place_of l))
@@ -217,9 +212,9 @@ module _ (n : ℕ) (zeros : List ℕ) (o : Outcome) (h : History) (ws : List Who
 
   next_step : (c : ℕ) → After (step c) (act o (step c))
   next_step c =
-      by_zero (After (step c) (act o (step c))) (step_refusal o.called.machine (length o.memory) o.owners o.holders c)
+      by_tested (After (step c) (act o (step c))) (step_refusal o.called.machine (length o.memory) o.owners o.holders c)
       (λ z. by_phase c z (inv.phase c) (inv.cores c))
-      (λ d. leaves_as (step c) _ (step_refused o c d) (λ s. refused_step c (step_refusal o.called.machine (length o.memory) o.owners o.holders c)))
+      (λ r z. leaves_as (step c) _ (step_refused o c r z) (λ s. refused_step c r))
 
   pub next : (call : Call) → After call (act o call)
   next (give c op) = next_give c op
@@ -232,7 +227,7 @@ zero_anywhere zero e = refl
 zero_anywhere (suc k) zero = refl
 zero_anywhere (suc k) (suc e) = zero_anywhere k e
 
-fresh_inv : (count : ℕ) (memory owners holders : List ℕ) → start_refusal count (length memory) (length owners) (length holders) ≡ 0
+fresh_inv : (count : ℕ) (memory owners holders : List ℕ) → start_refusal count (length memory) (length owners) (length holders) ≡ no_refusal
     → Inv (length owners) (replicate (length memory) 0) (started count memory owners holders) [] [] (λ i. []) (λ i. [])
 unfolding refer operations_of answers_of link_of owner_of
 fresh_inv count memory owners holders z =
@@ -249,9 +244,9 @@ fresh_inv count memory owners holders z =
       free = λ e l q. zero_anywhere (length owners) e;
     }
 
-started_as : (count : ℕ) (memory owners holders : List ℕ) → start_refusal count (length memory) (length owners) (length holders) ≡ 0 → start_of count memory owners holders ≡ started count memory owners holders
+started_as : (count : ℕ) (memory owners holders : List ℕ) → start_refusal count (length memory) (length owners) (length holders) ≡ no_refusal → start_of count memory owners holders ≡ started count memory owners holders
 unfolding start_of
-started_as count memory owners holders z = rw (eq-eqb _ _ z)
+started_as count memory owners holders z = rw z
 
 module _ (fresh : Outcome) (f : Fresh fresh) where
   pub started_inv : Inv fresh.called.machine.entries fresh.memory fresh [] [] (λ i. []) (λ i. [])

@@ -3,7 +3,6 @@
 use Rattle.std.proofs.Common.{◌≡◌, ℕ, zero, suc, ◌<◌, ◌≤◌, Bool, true, false, not, ◌||◌, eqb, ltb, leb, ◌⊎◌, List, length, get_or, set, replicate, refl, ap, ◌∙◌, inl, inr, ⊎_elim, arith, get_or-set_other, get_or-set_same, ltb-false, ltb-true, lt-ltb, eq-eqb, eqb-true, leb-true, if◌then◌else◌}
 use lib.Seq.{set_out}
 use borrow.Author.Tests.{eqb-false}
-use Rattle.rules.specs.Basics.{all_below}
 use Rattle.rules.specs.Kinds.{is_load, is_ll, is_store, address_of}
 use Rattle.rules.specs.Life.{resting, idle, given, advanced, judged, passes, micro_step, load_step, lock_step, mark_step, access_step, ll_access, sc_access}
 use Rattle.rules.specs.Ranges.{value_fields, link_fields, operation_occurs, step_occurs, operation_fits, inside, place_fits, core_fits, core_at, every_core_fits, sizes_fit, in_ranges}
@@ -14,7 +13,7 @@ use Rattle.rules.specs.declared.answers.Operation.TheVariants.{Load, Ll, Store, 
 use Rattle.rules.specs.declared.cores.Core.{Core}
 use Rattle.rules.specs.declared.cores.MicroStep.{MicroStep}
 use Rattle.rules.specs.declared.state.Machine.{Machine}
-use Rattle.rules.proofs.Bools.{and₂, and₃, or_true, in_use}
+use Rattle.rules.proofs.Bools.{all_below_lem, and₂, and₃, or_true, in_use}
 use Rattle.rules.proofs.Accepted.{Fits, fits, Inside, core_fits_lem}
 use Rattle.rules.proofs.Numbers.{of_both}
 
@@ -112,7 +111,7 @@ module _ {count bytes i : ℕ} (c : Core) (l : i < count) (f : Fits count bytes 
     store_kept n k = onward (advanced c 4) refl refl refl (has_step 4 refl refl o) (rw (b, k) (rw (b, k) at f.value_fields_lem)) f.link_fields_lem link_inside
 
     sc_kept : c.next ≡ 3 → c.operation ≡ 4 → core_fits count bytes i (sc_access i c 0 0).core ≡ true
-    sc_kept n k = onward (sc_access i c 0 0).core refl refl refl (has_step 4 refl refl o) (rw (b, k) (rw (b, k, n) at f.value_fields_lem)) (search f.link_fields_lem) (search link_inside)
+    sc_kept n k = onward (sc_access i c 0 0).core refl refl refl (has_step 4 refl refl o) (rw (b, k) (rw (b, k, n) at f.value_fields_lem)) refl refl
 
 -- by a choice's test, with what it says
 pub of_cases : {A : Type 0} (P : A → Type 0) (t : Bool) {a b : A} → (t ≡ true → P a) → (t ≡ false → P b) → P (if t then a else b)
@@ -171,11 +170,6 @@ given_kept {count} {bytes} i c o l h at =
     occurs_given (Ll a) = refl
     occurs_given (Store a v) = refl
     occurs_given (Sc a v) = refl
-
--- what holds of each number below n
-all_below_lem : (n : ℕ) (test : ℕ → Bool) → ((i : ℕ) → i < n → test i ≡ true) → all_below n test ≡ true
-all_below_lem zero test each = refl
-all_below_lem (suc n) test each = rw (all_below_lem n test (λ i l. each i (omega arith)), each n (omega arith))
 
 -- an element of a list with one element set is that one or the old one
 pub set_or_old : {A : Type 0} (P : A → Type 0) (list : List A) (i j : ℕ) (a d : A) → (j ≡ i → P a) → P (get_or list j d) → P (get_or (set list i a) j d)

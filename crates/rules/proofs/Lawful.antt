@@ -1,23 +1,23 @@
 -- The laws of specs/Laws.antt, proved.
 -- Assumes nothing.
-use Rattle.std.proofs.Common.{◌≡◌, ℕ, ◌%◌, Bool, true, false, eqb, List, length, replicate, sym, refl, ap, ◌∙◌, length-set, eq-eqb, eqb-true, if◌then◌else◌}
+use Rattle.std.proofs.Common.{◌≡◌, ℕ, ◌%◌, true, List, Result, Ok, Err, length, replicate, sym, refl, ap, ◌∙◌, length-set, eq-eqb}
 use lib.ListN.{length-replicate}
-use borrow.Author.Tests.{eqb-false}
 use Rattle.rules.specs.Entry.{entry_of}
 use Rattle.rules.specs.Word.{read_word, write_word}
 use Rattle.rules.specs.Life.{idle, given}
 use Rattle.rules.specs.Ranges.{core_at}
-use Rattle.rules.specs.Answers.{number_of}
-use Rattle.rules.specs.Calls.{Outcome, outcome, PokeOutcome, poke_outcome, refused, answered, unless_refused, all_idle, lent_fits, entry_at, mark_at, started, taken, stepped, micro_step_at, poked, start_refusal, give_refusal, step_refusal, word_refusal, start_of, give_of, step_of, poke_of, show_of}
+use Rattle.rules.specs.Refusals.{Tested, no_refusal, refusal_number, number_in, unless_refused}
+use Rattle.rules.specs.Calls.{Outcome, outcome, PokeOutcome, poke_outcome, refused, answered, all_idle, lent_fits, entry_at, mark_at, started, taken, stepped, micro_step_at, poked, start_refusal, give_refusal, step_refusal, word_refusal, start_of, give_of, step_of, poke_of, show_of}
 use Rattle.rules.specs.Laws.{EntryLaws, AsFound, RefusalLaws, Sound, RangeLaws, OneOutcome}
 use Rattle.rules.specs.declared.entry.GuestAddress.{GuestAddress}
 use Rattle.rules.specs.declared.answers.Operation.{Operation}
 use Rattle.rules.specs.declared.answers.Answer.{Answer}
+use Rattle.rules.specs.declared.refusals.Refusal.{Refusal}
 use Rattle.rules.specs.declared.answers.Answer.TheVariants.{Word}
 use Rattle.rules.specs.declared.state.Machine.{Machine}
 use Rattle.rules.specs.declared.state.Called.{Called}
 use Rattle.rules.proofs.Accepted.{entry_below, core_small, core_fits_lem, lent, StartAccepted, start_accepted, GiveAccepted, give_accepted, StepAccepted, step_accepted, WordAccepted, word_accepted}
-use Rattle.rules.proofs.Numbers.{micro_number, of_both}
+use Rattle.rules.proofs.Numbers.{of_both, refusals_numbered}
 use Rattle.rules.proofs.Words.{word_laws}
 use Rattle.rules.proofs.Kept.{fresh_fits, micro_kept, given_kept, machine_kept}
 
@@ -26,22 +26,17 @@ unfolding entry_of
 entry_laws = record { below = entry_below; one_word = λ entries a b fit e. λ i. record { 0 = e i % entries } }
 
 -- what holds of a call that is refused, and of one that is not, from what its rule does in either case
-module _ {A : Type 0} (answer : A → Answer) (P : A → Type 0) (n : ℕ) (refusal : ℕ → A) (done : A) where
-  if_refused : number_of (answer done) ≡ 0 → ((k : ℕ) → P (refusal k)) → (number_of (answer (unless_refused n refusal done)) ≡ 0 → ⊥) → P (unless_refused n refusal done)
-  if_refused quiet holds not-zero = go (eqb n 0) not-zero
-    where
-      go : (t : Bool) → (number_of (answer (if t then done else refusal n)) ≡ 0 → ⊥) → P (if t then done else refusal n)
-      go true f = absurd (f quiet)
-      go false f = holds n
+if_refused : {A : Type 0} (answer : A → Result Answer Refusal) (P : A → Type 0) (t : Tested) (refusal : Refusal → A) (done : A)
+    → number_in (answer done) ≡ 0 → ((r : Refusal) → P (refusal r)) → (number_in (answer (unless_refused t refusal done)) ≡ 0 → ⊥) → P (unless_refused t refusal done)
+if_refused answer P (Ok u) refusal done quiet holds not-zero = absurd (not-zero quiet)
+if_refused answer P (Err r) refusal done quiet holds not-zero = holds r
 
-  if_accepted : number_of (answer (refusal n)) ≡ n → (n ≡ 0 → P done) → number_of (answer (unless_refused n refusal done)) ≡ 0 → P (unless_refused n refusal done)
-  if_accepted loud holds zero = go (eqb n 0) refl zero
-    where
-      go : (t : Bool) → eqb n 0 ≡ t → number_of (answer (if t then done else refusal n)) ≡ 0 → P (if t then done else refusal n)
-      go true e z = holds (eqb-true n 0 e)
-      go false e z = absurd (eqb-false n 0 e (sym loud ∙ z))
+if_accepted : {A : Type 0} (answer : A → Result Answer Refusal) (P : A → Type 0) (t : Tested) (refusal : Refusal → A) (done : A)
+    → ((r : Refusal) → number_in (answer (refusal r)) ≡ refusal_number r) → (t ≡ no_refusal → P done) → number_in (answer (unless_refused t refusal done)) ≡ 0 → P (unless_refused t refusal done)
+if_accepted answer P (Ok u) refusal done loud holds zero = holds refl
+if_accepted answer P (Err r) refusal done loud holds zero = absurd (refusals_numbered r (sym (loud r) ∙ zero))
 
-as_found : (k : ℕ) (m : Machine) (memory owners holders : List ℕ) → AsFound (outcome (refused k m) memory owners holders) m memory owners holders
+as_found : (k : Refusal) (m : Machine) (memory owners holders : List ℕ) → AsFound (outcome (refused k m) memory owners holders) m memory owners holders
 as_found k m memory owners holders =
     record { machine_as_found = refl; memory_as_found = refl; owners_as_found = refl; holders_as_found = refl; no_record = refl; no_value = refl }
 
@@ -58,7 +53,7 @@ refusal_laws =
       step_as_found = λ m memory owners holders core.
           if_refused (λ (o : Outcome). o.called.answer) (λ (o : Outcome). AsFound o m memory owners holders) (step_refusal m (length memory) owners holders core)
           (λ k. outcome (refused k m) memory owners holders) (stepped m memory owners holders core (micro_step_at m memory owners holders core))
-          (micro_number core (core_at m core) (mark_at owners (entry_at m core)) (mark_at holders (entry_at m core)) (read_word memory (core_at m core).address)) (λ k. as_found k m memory owners holders);
+          refl (λ k. as_found k m memory owners holders);
       poke_as_found = λ m memory a value owners holders.
           if_refused (λ (o : PokeOutcome). o.called.answer) (λ (o : PokeOutcome). AsFound (outcome o.called o.memory owners holders) m memory owners holders) (word_refusal m (length memory) a)
           (λ k. poke_outcome (refused k m) memory) (poked m memory a value) refl (λ k. as_found k m memory owners holders);
@@ -73,11 +68,11 @@ same_lengths m memory owners holders p q r = rw (eq-eqb _ _ p, eq-eqb _ _ q, eq-
 
 module _ (count : ℕ) (memory owners holders : List ℕ) where
   started_if : (P : Outcome → Type 0) → (StartAccepted count (length memory) (length owners) (length holders) → P (started count memory owners holders))
-      → number_of (start_of count memory owners holders).called.answer ≡ 0 → P (start_of count memory owners holders)
+      → number_in (start_of count memory owners holders).called.answer ≡ 0 → P (start_of count memory owners holders)
   unfolding start_of
   started_if P holds =
       if_accepted (λ (o : Outcome). o.called.answer) P (start_refusal count (length memory) (length owners) (length holders)) (λ k. outcome (refused k (all_idle 0 0 0)) memory owners holders)
-      (started count memory owners holders) refl (λ z. holds (start_accepted count (length memory) (length owners) (length holders) z))
+      (started count memory owners holders) (λ r. refl) (λ z. holds (start_accepted count (length memory) (length owners) (length holders) z))
 
   pub started_sound : StartAccepted count (length memory) (length owners) (length holders) → Sound (started count memory owners holders)
   started_sound a =
@@ -123,14 +118,14 @@ range_laws =
           started_if count memory owners holders (λ (o : Outcome). (o.memory ≡ replicate (length memory) 0) × (o.owners ≡ replicate (length owners) 0) × (o.holders ≡ replicate (length owners) 0))
           (λ a. (refl, refl, ap (λ (n : ℕ). replicate n 0) a.tables));
       give_sound = λ m core o memory owners holders lent.
-          if_accepted (λ (r : Called). r.answer) (λ (r : Called). Sound (outcome r memory owners holders)) (give_refusal m core o) (λ k. refused k m) (taken m core o) refl
+          if_accepted (λ (r : Called). r.answer) (λ (r : Called). Sound (outcome r memory owners holders)) (give_refusal m core o) (λ k. refused k m) (taken m core o) (λ r. refl)
           (λ z. given_sound m core o memory owners holders lent (give_accepted m core o z));
       step_sound = λ m memory owners holders core.
           if_accepted (λ (o : Outcome). o.called.answer) Sound (step_refusal m (length memory) owners holders core) (λ k. outcome (refused k m) memory owners holders)
-          (stepped m memory owners holders core (micro_step_at m memory owners holders core)) refl (λ z. stepped_sound m memory owners holders core (step_accepted m (length memory) owners holders core z));
+          (stepped m memory owners holders core (micro_step_at m memory owners holders core)) (λ r. refl) (λ z. stepped_sound m memory owners holders core (step_accepted m (length memory) owners holders core z));
       poke_sound = λ m memory a value owners holders fit.
           if_accepted (λ (o : PokeOutcome). o.called.answer) (λ (o : PokeOutcome). Sound (outcome o.called o.memory owners holders)) (word_refusal m (length memory) a)
-          (λ k. poke_outcome (refused k m) memory) (poked m memory a value) refl (λ z. poked_sound m memory a value owners holders fit (word_accepted m (length memory) a z));
+          (λ k. poke_outcome (refused k m) memory) (poked m memory a value) (λ r. refl) (λ z. poked_sound m memory a value owners holders fit (word_accepted m (length memory) a z));
     }
 
 pub one-outcome : OneOutcome

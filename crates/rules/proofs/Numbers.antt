@@ -1,18 +1,16 @@
 -- The number of each call's answer is the number of its refusal, 0 where it is not refused.
 -- Assumes nothing.
-use Rattle.std.proofs.Common.{◌≡◌, ℕ, Bool, true, false, eqb, List, length, sym, refl, ap, ◌∙◌, eqb-true, if◌then◌else◌}
-use Rattle.rules.specs.Answers.{number_of}
-use Rattle.rules.specs.Kinds.{is_load, is_ll, is_store}
-use Rattle.rules.specs.Life.{micro_step, load_step, lock_step, mark_step, access_step, delivered}
+use Rattle.std.proofs.Common.{◌≡◌, ℕ, Bool, true, false, eqb, List, Result, Ok, Err, length, refl, ap, ◌∙◌, eqb-true, arith, if◌then◌else◌}
+use borrow.Author.Tests.{eqb-false}
+use Rattle.rules.specs.Refusals.{Tested, no_refusal, refusal_number, number_in, unless_refused}
 use Rattle.rules.specs.Word.{read_word}
-use Rattle.rules.specs.Ranges.{core_at}
-use Rattle.rules.specs.Calls.{Outcome, PokeOutcome, outcome, poke_outcome, refused, answered, unless_refused, all_idle, started, taken, stepped, poked, entry_at, mark_at, start_refusal, start_of, give_refusal, give_of, step_refusal, step_of, micro_step_at, word_refusal, poke_of, show_of}
+use Rattle.rules.specs.Calls.{Outcome, PokeOutcome, outcome, poke_outcome, refused, answered, all_idle, started, taken, stepped, poked, start_refusal, start_of, give_refusal, give_of, step_refusal, step_of, micro_step_at, word_refusal, poke_of, show_of}
 use Rattle.rules.specs.declared.entry.GuestAddress.{GuestAddress}
 use Rattle.rules.specs.declared.answers.Operation.{Operation}
 use Rattle.rules.specs.declared.answers.Answer.{Answer}
+use Rattle.rules.specs.declared.refusals.Refusal.{Refusal}
+use Rattle.rules.specs.declared.refusals.Refusal.TheVariants.{NoSuchCore, Unaligned, Outside, LentLengths, OutOfRange, Damaged, Busy, Idle, NotUnderstood, NoMachine, BlockMark, BlockCheck, BlockNumber, RecordCount, RecordField, BlockLength, Full, Closed}
 use Rattle.rules.specs.declared.answers.Answer.TheVariants.{Word}
-use Rattle.rules.specs.declared.cores.Core.{Core}
-use Rattle.rules.specs.declared.cores.MicroStep.{MicroStep}
 use Rattle.rules.specs.declared.state.Machine.{Machine}
 use Rattle.rules.specs.declared.state.Called.{Called}
 
@@ -21,52 +19,71 @@ pub of_both : {A : Type 0} (P : A → Type 0) (t : Bool) {a b : A} → P a → P
 of_both P true p q = p
 of_both P false p q = q
 
--- an answer that is one or the other by a refusal's number
-chosen : {A : Type 0} (answer : A → Answer) (n : ℕ) (refusal : ℕ → A) (done : A) → number_of (answer (refusal n)) ≡ n → number_of (answer done) ≡ 0 → number_of (answer (unless_refused n refusal done)) ≡ n
-chosen answer n refusal done p q = go (eqb n 0) refl
+-- by whether a number is 0
+pub by_zero : (P : Type 0) (n : ℕ) → (n ≡ 0 → P) → ((n ≡ 0 → ⊥) → P) → P
+by_zero P n yes' no' = go (eqb n 0) refl
   where
-    go : (t : Bool) → eqb n 0 ≡ t → number_of (answer (if t then done else refusal n)) ≡ n
-    go true e = q ∙ sym (eqb-true n 0 e)
-    go false e = p
+    go : (t : Bool) → eqb n 0 ≡ t → P
+    go true e = yes' (eqb-true n 0 e)
+    go false e = no' (eqb-false n 0 e)
 
-pub micro_number : (me : ℕ) (c : Core) (owner holder word : ℕ) → number_of (micro_step me c owner holder word).answer ≡ 0
-unfolding micro_step load_step lock_step mark_step access_step delivered
-micro_number me c owner holder word =
-    of_both step (is_load c.operation) refl
-    (of_both step (eqb c.next 1) (of_both step (eqb holder 0) refl refl)
-    (of_both step (eqb c.next 2) (of_both step (is_ll c.operation) refl (of_both step (is_store c.operation) refl refl))
-    (of_both step (eqb c.next 3) (of_both step (is_ll c.operation) refl (of_both step (is_store c.operation) refl refl))
-    (of_both (λ (a : Answer). number_of a ≡ 0) (is_ll c.operation) refl (of_both (λ (a : Answer). number_of a ≡ 0) (is_store c.operation) refl refl)))))
-  where
-    step : MicroStep → Type 0
-    step s = number_of s.answer ≡ 0
+-- no refusal has the number 0
+pub refusals_numbered : (r : Refusal) → refusal_number r ≡ 0 → ⊥
+refusals_numbered NoSuchCore h = omega arith
+refusals_numbered Unaligned h = omega arith
+refusals_numbered Outside h = omega arith
+refusals_numbered LentLengths h = omega arith
+refusals_numbered OutOfRange h = omega arith
+refusals_numbered Damaged h = omega arith
+refusals_numbered Busy h = omega arith
+refusals_numbered Idle h = omega arith
+refusals_numbered NotUnderstood h = omega arith
+refusals_numbered NoMachine h = omega arith
+refusals_numbered BlockMark h = omega arith
+refusals_numbered BlockCheck h = omega arith
+refusals_numbered BlockNumber h = omega arith
+refusals_numbered RecordCount h = omega arith
+refusals_numbered RecordField h = omega arith
+refusals_numbered BlockLength h = omega arith
+refusals_numbered Full h = omega arith
+refusals_numbered Closed h = omega arith
 
-pub start_number : (count : ℕ) (memory owners holders : List ℕ) → number_of (start_of count memory owners holders).called.answer ≡ start_refusal count (length memory) (length owners) (length holders)
+-- tests whose number is 0 refuse nothing
+pub not_refused : (t : Tested) → number_in t ≡ 0 → t ≡ no_refusal
+not_refused (Ok u) z = refl
+not_refused (Err r) z = absurd (refusals_numbered r z)
+
+-- an answer that is one or the other by a call's tests
+chosen : {A : Type 0} (answer : A → Result Answer Refusal) (t : Tested) (refusal : Refusal → A) (done : A) → ((r : Refusal) → number_in (answer (refusal r)) ≡ refusal_number r) → number_in (answer done) ≡ 0
+    → number_in (answer (unless_refused t refusal done)) ≡ number_in t
+chosen answer (Ok u) refusal done p q = q
+chosen answer (Err r) refusal done p q = p r
+
+pub start_number : (count : ℕ) (memory owners holders : List ℕ) → number_in (start_of count memory owners holders).called.answer ≡ number_in (start_refusal count (length memory) (length owners) (length holders))
 unfolding start_of
 start_number count memory owners holders =
     chosen (λ (o : Outcome). o.called.answer) (start_refusal count (length memory) (length owners) (length holders)) (λ n. outcome (refused n (all_idle 0 0 0)) memory owners holders)
-    (started count memory owners holders) refl refl
+    (started count memory owners holders) (λ r. refl) refl
 
 module _ (m : Machine) where
-  pub give_number : (core : ℕ) (o : Operation) → number_of (give_of m core o).answer ≡ give_refusal m core o
+  pub give_number : (core : ℕ) (o : Operation) → number_in (give_of m core o).answer ≡ number_in (give_refusal m core o)
   unfolding give_of
-  give_number core o = chosen (λ (r : Called). r.answer) (give_refusal m core o) (λ n. refused n m) (taken m core o) refl refl
+  give_number core o = chosen (λ (r : Called). r.answer) (give_refusal m core o) (λ n. refused n m) (taken m core o) (λ r. refl) refl
 
-  pub step_number : (memory owners holders : List ℕ) (core : ℕ) → number_of (step_of m memory owners holders core).called.answer ≡ step_refusal m (length memory) owners holders core
+  pub step_number : (memory owners holders : List ℕ) (core : ℕ) → number_in (step_of m memory owners holders core).called.answer ≡ number_in (step_refusal m (length memory) owners holders core)
   unfolding step_of stepped micro_step_at
   step_number memory owners holders core =
       chosen (λ (o : Outcome). o.called.answer) (step_refusal m (length memory) owners holders core) (λ n. outcome (refused n m) memory owners holders)
-      (stepped m memory owners holders core (micro_step_at m memory owners holders core)) refl
-      (micro_number core (core_at m core) (mark_at owners (entry_at m core)) (mark_at holders (entry_at m core)) (read_word memory (core_at m core).address))
+      (stepped m memory owners holders core (micro_step_at m memory owners holders core)) (λ r. refl) refl
 
-  pub poke_number : (memory : List ℕ) (a : GuestAddress) (value : ℕ) → number_of (poke_of m memory a value).called.answer ≡ word_refusal m (length memory) a
+  pub poke_number : (memory : List ℕ) (a : GuestAddress) (value : ℕ) → number_in (poke_of m memory a value).called.answer ≡ number_in (word_refusal m (length memory) a)
   unfolding poke_of
-  poke_number memory a value = chosen (λ (o : PokeOutcome). o.called.answer) (word_refusal m (length memory) a) (λ n. poke_outcome (refused n m) memory) (poked m memory a value) refl refl
+  poke_number memory a value = chosen (λ (o : PokeOutcome). o.called.answer) (word_refusal m (length memory) a) (λ n. poke_outcome (refused n m) memory) (poked m memory a value) (λ r. refl) refl
 
-  pub show_number : (memory : List ℕ) (a : GuestAddress) → number_of (show_of m memory a).answer ≡ word_refusal m (length memory) a
+  pub show_number : (memory : List ℕ) (a : GuestAddress) → number_in (show_of m memory a).answer ≡ number_in (word_refusal m (length memory) a)
   unfolding show_of
-  show_number memory a = chosen (λ (r : Called). r.answer) (word_refusal m (length memory) a) (λ n. refused n m) (answered (Word (read_word memory a)) m) refl refl
+  show_number memory a = chosen (λ (r : Called). r.answer) (word_refusal m (length memory) a) (λ n. refused n m) (answered (Word (read_word memory a)) m) (λ r. refl) refl
 
 -- an outcome that is the rule's has the number of the rule's answer
-pub numbered : {A : Type 0} (answer : A → Answer) {o rule : A} {n : ℕ} → number_of (answer rule) ≡ n → o ≡ rule → (number_of (answer o) ≡ n) × (o ≡ rule)
-numbered answer p e = (ap (λ o. number_of (answer o)) e ∙ p, e)
+pub numbered : {A : Type 0} (answer : A → Result Answer Refusal) {o rule : A} {n : ℕ} → number_in (answer rule) ≡ n → o ≡ rule → (number_in (answer o) ≡ n) × (o ≡ rule)
+numbered answer p e = (ap (λ o. number_in (answer o)) e ∙ p, e)

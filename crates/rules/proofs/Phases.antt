@@ -1,6 +1,6 @@
 -- A core of a run is the picture of a phase: which operation it is at, at which step, and its link. What each micro-step makes of a picture, by cases.
 -- Assumes nothing.
-use Rattle.std.proofs.Common.{◌≡◌, ℕ, Bool, true, false, eqb, refl, if◌then◌else◌}
+use Rattle.std.proofs.Common.{◌≡◌, ℕ, Bool, true, false, eqb, refl, if◌then◌else◌, Some, None}
 use Rattle.rules.specs.Sizes.{written}
 use Rattle.rules.specs.Kinds.{address_of}
 use Rattle.rules.specs.Life.{resting, given, advanced, judged, moves, ll_mark, store_mark, sc_mark, passes, ll_access, store_access, sc_access, micro_step, load_step, lock_step, mark_step, access_step, delivered}
@@ -10,7 +10,6 @@ use Rattle.rules.specs.declared.answers.Operation.{Operation}
 use Rattle.rules.specs.declared.answers.Operation.TheVariants as Asked
 use Rattle.rules.specs.declared.answers.Answer.{Answer}
 use Rattle.rules.specs.declared.answers.Answer.TheVariants as Answered
-use Rattle.rules.specs.declared.answers.Handed.TheVariants.{Nothing, One}
 use Rattle.rules.specs.declared.cores.Core.{Core}
 
 -- the operations that take the lock
@@ -99,13 +98,13 @@ answer_at (sc a v) passed read = Answered.Sc (if passed then 0 else 1)
 
 module _ (me : ℕ) (k : Link) (owner holder word : ℕ) where
   pub load_step_lem : (a : GuestAddress) → micro_step me (picture (loads a) k) owner holder word
-      ≡ record { answer = Answered.Load word; made = One (record { core = me; kind = 1; address = a; value = word }); core = picture rests k; owner = owner; holder = holder; writes = false }
+      ≡ record { answer = Answered.Load word; made = Some (record { core = me; kind = 1; address = a; value = word }); core = picture rests k; owner = owner; holder = holder; writes = false }
   unfolding micro_step load_step
   load_step_lem a = refl
 
   pub ask_step : (l : Locked) → micro_step me (picture (asks l) k) owner holder word
       ≡ (if eqb holder 0 then moves (picture (holds l) k) owner (written me)
-      else record { answer = Answered.Waits; made = Nothing; core = picture (asks l) k; owner = owner; holder = holder; writes = false })
+      else record { answer = Answered.Waits; made = None; core = picture (asks l) k; owner = owner; holder = holder; writes = false })
   unfolding micro_step lock_step
   ask_step (ll a) = refl
   ask_step (store a v) = refl
@@ -120,7 +119,7 @@ module _ (me : ℕ) (k : Link) (owner holder word : ℕ) where
   pub reach_step : (l : Locked) (passed : Bool) → micro_step me (picture (reaches l passed) k) owner holder word
       ≡ record {
         answer = Answered.Moved;
-        made = One (record { core = me; kind = kind_at l passed; address = place_of l; value = value_at l word });
+        made = Some (record { core = me; kind = kind_at l passed; address = place_of l; value = value_at l word });
         core = picture (leaves l passed (read_at l word)) (link_at l passed k);
         owner = owner_at l passed owner;
         holder = holder;
@@ -132,7 +131,7 @@ module _ (me : ℕ) (k : Link) (owner holder word : ℕ) where
   reach_step (sc a v) passed = refl
 
   pub leave_step_lem : (l : Locked) (passed : Bool) (read : ℕ) → micro_step me (picture (leaves l passed read) k) owner holder word
-      ≡ record { answer = answer_at l passed read; made = Nothing; core = picture rests k; owner = owner; holder = 0; writes = false }
+      ≡ record { answer = answer_at l passed read; made = None; core = picture rests k; owner = owner; holder = 0; writes = false }
   unfolding micro_step delivered
   leave_step_lem (ll a) passed read = refl
   leave_step_lem (store a v) passed read = refl

@@ -1,6 +1,6 @@
 -- Each kind of call keeps the invariant of a run.
 -- Assumes nothing.
-use Rattle.std.proofs.Common.{◌≡◌, ℕ, ◌<◌, ◌≤◌, Bool, true, false, eqb, ◌⊎◌, List, ◌∷◌, length, get_or, set, sym, refl, ap, ◌∙◌, subst, inl, inr, ⊎_elim, true≢false, arith, length-set, get_or-set_other, get_or-set_same, eq-eqb, ne_eqb, eqb-true, if◌then◌else◌}
+use Rattle.std.proofs.Common.{◌≡◌, ℕ, ◌<◌, ◌≤◌, Bool, true, false, eqb, ◌⊎◌, List, ◌∷◌, Option, Some, None, Result, Ok, length, get_or, set, sym, refl, ap, ◌∙◌, subst, inl, inr, ⊎_elim, true≢false, arith, length-set, get_or-set_other, get_or-set_same, eq-eqb, ne_eqb, eqb-true, if◌then◌else◌}
 use lib.Seq.{set-get_or}
 use borrow.Author.Tests.{eqb-false}
 use Rattle.rules.specs.Sizes.{written}
@@ -20,9 +20,8 @@ use Rattle.rules.specs.declared.answers.Operation.{Operation}
 use Rattle.rules.specs.declared.answers.Operation.TheVariants as Asked
 use Rattle.rules.specs.declared.answers.Answer.{Answer}
 use Rattle.rules.specs.declared.answers.Answer.TheVariants as Answered
-use Rattle.rules.specs.declared.answers.Handed.{Handed}
-use Rattle.rules.specs.declared.answers.Handed.TheVariants.{Nothing, One}
 use Rattle.rules.specs.declared.answers.Record.{Record}
+use Rattle.rules.specs.declared.refusals.Refusal.{Refusal}
 use Rattle.rules.specs.declared.cores.Core.{Core}
 use Rattle.rules.proofs.Numbers.{of_both}
 use Rattle.rules.proofs.Kept.{set_or_old}
@@ -56,7 +55,7 @@ module _ (entry : GuestAddress → EntryNumber) (zeros : List ℕ) (c : ℕ) (o 
   unfolding refer
   refer_history = refl
 
-delivers_other : (i c : ℕ) (answer : Answer) (ds : List Answer) → (i ≡ c → ⊥) → delivers i (step c) answer ds ≡ ds
+delivers_other : (i c : ℕ) (answer : Result Answer Refusal) (ds : List Answer) → (i ≡ c → ⊥) → delivers i (step c) answer ds ≡ ds
 delivers_other i c answer ds d = rw (ne_eqb c i (λ e. d (sym e)))
 
 -- a core that is not busy rests
@@ -157,7 +156,7 @@ finishes_at (sc a v) passed read = refl
 
 module _ (n : ℕ) (zeros : List ℕ) (o : Outcome) (h : History) (ws : List Whole) (gs : ℕ → List Operation) (ds : ℕ → List Answer) (inv : Inv n zeros o h ws gs ds) where
   -- nothing changes but the answer
-  pub carried : (answer : Answer) (made : Handed) (gs' : ℕ → List Operation) (ds' : ℕ → List Answer) → ((i : ℕ) → gs' i ≡ gs i) → ((i : ℕ) → ds' i ≡ ds i)
+  pub carried : (answer : Result Answer Refusal) (made : Option Record) (gs' : ℕ → List Operation) (ds' : ℕ → List Answer) → ((i : ℕ) → gs' i ≡ gs i) → ((i : ℕ) → ds' i ≡ ds i)
       → Inv n zeros (outcome (record { answer = answer; made = made; machine = o.called.machine }) o.memory o.owners o.holders) h ws gs' ds'
   carried answer made gs' ds' g d =
       record {
@@ -215,7 +214,7 @@ module _ (n : ℕ) (zeros : List ℕ) (o : Outcome) (h : History) (ws : List Who
   given_next c op small b sound =
       let old = idle_core c b in
       let y = given (core_at o.called.machine c) op in
-      renewed (outcome (answered Answered.Taken (with_core o.called.machine c y)) o.memory o.owners o.holders) h ws (λ i. taken i (give c op) Answered.Taken (gs i)) ds c (begun op)
+      renewed (outcome (answered Answered.Taken (with_core o.called.machine c y)) o.memory o.owners o.holders) h ws (λ i. taken i (give c op) (Ok Answered.Taken) (gs i)) ds c (begun op)
       sound (eight_new c y) inv.same inv.memory inv.history
       (record {
         core = core_new c y small ∙ ap (λ (z : Core). given z op) old.core ∙ begun_picture op (link_of c h);
@@ -237,12 +236,12 @@ module _ (n : ℕ) (zeros : List ℕ) (o : Outcome) (h : History) (ws : List Who
 
   -- a poke: it ends no link and touches no mark
   pub poked_next : (a : GuestAddress) (value : ℕ)
-      → Sound (outcome (record { answer = Answered.Poked; made = One (access_of poke_core poke_kind a value); machine = o.called.machine }) (write_word o.memory a value) o.owners o.holders)
-      → Next n zeros (poke a value) h ws gs ds (outcome (record { answer = Answered.Poked; made = One (access_of poke_core poke_kind a value); machine = o.called.machine }) (write_word o.memory a value) o.owners o.holders)
+      → Sound (outcome (record { answer = Ok Answered.Poked; made = Some (access_of poke_core poke_kind a value); machine = o.called.machine }) (write_word o.memory a value) o.owners o.holders)
+      → Next n zeros (poke a value) h ws gs ds (outcome (record { answer = Ok Answered.Poked; made = Some (access_of poke_core poke_kind a value); machine = o.called.machine }) (write_word o.memory a value) o.owners o.holders)
   unfolding refer operations_of answers_of
   poked_next a value sound =
       let r = access_of poke_core poke_kind a value in
-      let x = outcome (record { answer = Answered.Poked; made = One r; machine = o.called.machine }) (write_word o.memory a value) o.owners o.holders in
+      let x = outcome (record { answer = Ok Answered.Poked; made = Some r; machine = o.called.machine }) (write_word o.memory a value) o.owners o.holders in
       record {
         sound = sound;
         eight = inv.eight;
@@ -268,19 +267,19 @@ module _ (n : ℕ) (zeros : List ℕ) (o : Outcome) (h : History) (ws : List Who
 
   -- a load: it reads and finishes, and touches no mark
   pub loaded_next : (c : ℕ) (a : GuestAddress) → c < 8 → CoreOk n zeros o h ws c (loads a) (gs c) (ds c)
-      → Sound (outcome (record { answer = Answered.Load (read_word o.memory a); made = One (access_of c 1 a (read_word o.memory a)); machine = with_core o.called.machine c (picture rests (link_of c h)) }) o.memory o.owners o.holders)
+      → Sound (outcome (record { answer = Ok (Answered.Load (read_word o.memory a)); made = Some (access_of c 1 a (read_word o.memory a)); machine = with_core o.called.machine c (picture rests (link_of c h)) }) o.memory o.owners o.holders)
       → Next n zeros (step c) h ws gs ds
-      (outcome (record { answer = Answered.Load (read_word o.memory a); made = One (access_of c 1 a (read_word o.memory a)); machine = with_core o.called.machine c (picture rests (link_of c h)) }) o.memory o.owners o.holders)
+      (outcome (record { answer = Ok (Answered.Load (read_word o.memory a)); made = Some (access_of c 1 a (read_word o.memory a)); machine = with_core o.called.machine c (picture rests (link_of c h)) }) o.memory o.owners o.holders)
   unfolding finish
   loaded_next c a small old sound =
       let w = read_word o.memory a in
       let r = access_of c 1 a w in
       let y = picture rests (link_of c h) in
-      let x = outcome (record { answer = Answered.Load w; made = One r; machine = with_core o.called.machine c y }) o.memory o.owners o.holders in
+      let x = outcome (record { answer = Ok (Answered.Load w); made = Some r; machine = with_core o.called.machine c y }) o.memory o.owners o.holders in
       let vs = does c (Asked.Load a) ∷ ws in
       let word : w ≡ read_word (refer (entry_of n) zeros ws).memory a = ap (λ (m : List ℕ). read_word m a) inv.memory in
-      subst (λ (op : Operation). Inv n zeros x (r ∷ h) (does c op ∷ ws) gs (λ i. delivers i (step c) (Answered.Load w) (ds i))) (sym (ap last_of old.lists.0))
-      (renewed x (r ∷ h) vs gs (λ i. delivers i (step c) (Answered.Load w) (ds i)) c rests
+      subst (λ (op : Operation). Inv n zeros x (r ∷ h) (does c op ∷ ws) gs (λ i. delivers i (step c) (Ok (Answered.Load w)) (ds i))) (sym (ap last_of old.lists.0))
+      (renewed x (r ∷ h) vs gs (λ i. delivers i (step c) (Ok (Answered.Load w)) (ds i)) c rests
       sound (eight_new c y) inv.same
       (inv.memory ∙ sym (refer_memory (entry_of n) zeros c (Asked.Load a) ws))
       ((λ j. access_of c 1 a (word j) ∷ inv.history j) ∙ sym (refer_history (entry_of n) zeros c (Asked.Load a) ws))
@@ -299,7 +298,7 @@ module _ (n : ℕ) (zeros : List ℕ) (o : Outcome) (h : History) (ws : List Who
         operations_same = operations_other (entry_of n) zeros c (Asked.Load a) ws i d;
         answers_same = answers_other (entry_of n) zeros c (Asked.Load a) ws i d;
         given_same = refl;
-        delivered_same = delivers_other i c (Answered.Load w) (ds i) d;
+        delivered_same = delivers_other i c (Ok (Answered.Load w)) (ds i) d;
         inside_same = λ e q. (q, refl, owner_quiet (entry_of n) e r h refl refl refl);
         back = λ e q. q;
       })
@@ -308,9 +307,9 @@ module _ (n : ℕ) (zeros : List ℕ) (o : Outcome) (h : History) (ws : List Who
   -- a step inside an entry, or into it or out of it: it touches the core, that entry's owner and holder, and no other core's
   module _ (c : ℕ) (small : c < 8) (below : c < o.called.machine.count) (e₀ : ℕ) (owner_there : e₀ < length o.owners) (holder_there : e₀ < length o.holders)
       (mine : (get_or o.holders e₀ 0 ≡ 0) ⊎ (get_or o.holders e₀ 0 ≡ written c)) where
-    abbrev left : Answer → Handed → Core → List ℕ → ℕ → ℕ → Outcome
+    abbrev left : Answer → Option Record → Core → List ℕ → ℕ → ℕ → Outcome
     left answer made y memory owner holder =
-        outcome (record { answer = answer; made = made; machine = with_core o.called.machine c y }) memory (set o.owners e₀ owner) (set o.holders e₀ holder)
+        outcome (record { answer = Ok answer; made = made; machine = with_core o.called.machine c y }) memory (set o.owners e₀ owner) (set o.holders e₀ holder)
 
     -- another core is inside another entry
     elsewhere : (i : ℕ) → (i ≡ c → ⊥) → (e : ℕ) → get_or o.holders e 0 ≡ written i → e ≡ e₀ → ⊥
@@ -327,7 +326,7 @@ module _ (n : ℕ) (zeros : List ℕ) (o : Outcome) (h : History) (ws : List Who
     mark_small : (mark : ℕ) → (mark ≡ 0) ⊎ (mark ≡ written c) → mark ≤ o.called.machine.count
     mark_small mark m = ⊎_elim (λ (z : mark ≡ 0). omega arith) (λ (z : mark ≡ written c). omega arith) m
 
-    inner : (answer : Answer) (made : Handed) (y : Core) (memory : List ℕ) (owner holder : ℕ) (k : History) (vs : List Whole) (ds' : ℕ → List Answer) (p : Phase)
+    inner : (answer : Answer) (made : Option Record) (y : Core) (memory : List ℕ) (owner holder : ℕ) (k : History) (vs : List Whole) (ds' : ℕ → List Answer) (p : Phase)
         → Sound (left answer made y memory owner holder) → memory ≡ (refer (entry_of n) zeros vs).memory → k ≡ (refer (entry_of n) zeros vs).history
         → owner ≤ o.called.machine.count → (holder ≡ 0) ⊎ (holder ≡ written c) → (holder ≡ 0 → owner ≡ owner_of (entry_of n) e₀ k)
         → ((i : ℕ) → (i ≡ c → ⊥) → link_of i k ≡ link_of i h) → ((e : ℕ) → (e ≡ e₀ → ⊥) → owner_of (entry_of n) e k ≡ owner_of (entry_of n) e h)
@@ -370,12 +369,12 @@ module _ (n : ℕ) (zeros : List ℕ) (o : Outcome) (h : History) (ws : List Who
 
     -- step 1: the lock is free, and is taken
     pub lock_next : (l : Locked) → (entry_of n (place_of l)).0 ≡ e₀ → e₀ < n → get_or o.holders e₀ 0 ≡ 0 → CoreOk n zeros o h ws c (asks l) (gs c) (ds c)
-        → Sound (left Answered.Moved Nothing (picture (holds l) (link_of c h)) o.memory (get_or o.owners e₀ 0) (written c))
-        → Next n zeros (step c) h ws gs ds (left Answered.Moved Nothing (picture (holds l) (link_of c h)) o.memory (get_or o.owners e₀ 0) (written c))
+        → Sound (left Answered.Moved None (picture (holds l) (link_of c h)) o.memory (get_or o.owners e₀ 0) (written c))
+        → Next n zeros (step c) h ws gs ds (left Answered.Moved None (picture (holds l) (link_of c h)) o.memory (get_or o.owners e₀ 0) (written c))
     lock_next l at l₀ none old sound =
-        inner Answered.Moved Nothing (picture (holds l) (link_of c h)) o.memory (get_or o.owners e₀ 0) (written c) h ws (λ i. delivers i (step c) Answered.Moved (ds i)) (holds l)
+        inner Answered.Moved None (picture (holds l) (link_of c h)) o.memory (get_or o.owners e₀ 0) (written c) h ws (λ i. delivers i (step c) (Ok Answered.Moved) (ds i)) (holds l)
         sound inv.memory inv.history (inv.owners_small e₀) (inr refl) (λ z. absurd (no_mark c (sym z)))
-        (λ i d. refl) (λ e d. refl) (λ i d. refl) (λ i d. refl) (λ i d. delivers_other i c Answered.Moved (ds i) d)
+        (λ i d. refl) (λ e d. refl) (λ i d. refl) (λ i d. refl) (λ i d. delivers_other i c (Ok Answered.Moved) (ds i) d)
         (record {
           core = core_new c (picture (holds l) (link_of c h)) small;
           table = rw at (holder_new (written c), owner_new (get_or o.owners e₀ 0) ∙ inv.free e₀ l₀ none);
@@ -393,14 +392,14 @@ module _ (n : ℕ) (zeros : List ℕ) (o : Outcome) (h : History) (ws : List Who
 
     -- step 2: the mark and the test
     pub mark_next : (l : Locked) → (entry_of n (place_of l)).0 ≡ e₀ → CoreOk n zeros o h ws c (holds l) (gs c) (ds c) → (get_or o.holders e₀ 0 ≡ written c) × (get_or o.owners e₀ 0 ≡ owner_of (entry_of n) e₀ h)
-        → Sound (left Answered.Moved Nothing (picture (reaches l (tested c l (link_of c h) (get_or o.owners e₀ 0))) (link_of c h)) o.memory (marked c l (get_or o.owners e₀ 0)) (get_or o.holders e₀ 0))
-        → Next n zeros (step c) h ws gs ds (left Answered.Moved Nothing (picture (reaches l (tested c l (link_of c h) (get_or o.owners e₀ 0))) (link_of c h)) o.memory (marked c l (get_or o.owners e₀ 0)) (get_or o.holders e₀ 0))
+        → Sound (left Answered.Moved None (picture (reaches l (tested c l (link_of c h) (get_or o.owners e₀ 0))) (link_of c h)) o.memory (marked c l (get_or o.owners e₀ 0)) (get_or o.holders e₀ 0))
+        → Next n zeros (step c) h ws gs ds (left Answered.Moved None (picture (reaches l (tested c l (link_of c h) (get_or o.owners e₀ 0))) (link_of c h)) o.memory (marked c l (get_or o.owners e₀ 0)) (get_or o.holders e₀ 0))
     mark_next l at old t sound =
         let owner = get_or o.owners e₀ 0 in
         let p = tested c l (link_of c h) owner in
-        inner Answered.Moved Nothing (picture (reaches l p) (link_of c h)) o.memory (marked c l owner) (get_or o.holders e₀ 0) h ws (λ i. delivers i (step c) Answered.Moved (ds i)) (reaches l p)
+        inner Answered.Moved None (picture (reaches l p) (link_of c h)) o.memory (marked c l owner) (get_or o.holders e₀ 0) h ws (λ i. delivers i (step c) (Ok Answered.Moved) (ds i)) (reaches l p)
         sound inv.memory inv.history (marked_small c l owner o.called.machine.count below (inv.owners_small e₀)) (inr t.0) (λ z. absurd (no_mark c (sym z ∙ t.0)))
-        (λ i d. refl) (λ e d. refl) (λ i d. refl) (λ i d. refl) (λ i d. delivers_other i c Answered.Moved (ds i) d)
+        (λ i d. refl) (λ e d. refl) (λ i d. refl) (λ i d. refl) (λ i d. delivers_other i c (Ok Answered.Moved) (ds i) d)
         (record {
           core = core_new c (picture (reaches l p) (link_of c h)) small;
           table = rw at (holder_new (get_or o.holders e₀ 0) ∙ t.0, owner_new (marked c l owner) ∙ ap (marked c l) t.1, ap (tested c l (link_of c h)) t.1);
@@ -411,9 +410,9 @@ module _ (n : ℕ) (zeros : List ℕ) (o : Outcome) (h : History) (ws : List Who
     -- step 3: the access
     pub access_next : (l : Locked) (passed : Bool) → (entry_of n (place_of l)).0 ≡ e₀ → CoreOk n zeros o h ws c (reaches l passed) (gs c) (ds c)
         → (get_or o.holders e₀ 0 ≡ written c) × (get_or o.owners e₀ 0 ≡ marked c l (owner_of (entry_of n) e₀ h)) → Judged (entry_of n) h c l passed
-        → Sound (left Answered.Moved (One (access_at c l passed (read_word o.memory (place_of l)))) (picture (leaves l passed (read_at l (read_word o.memory (place_of l)))) (link_at l passed (link_of c h)))
+        → Sound (left Answered.Moved (Some (access_at c l passed (read_word o.memory (place_of l)))) (picture (leaves l passed (read_at l (read_word o.memory (place_of l)))) (link_at l passed (link_of c h)))
         (if writes_at l passed then write_word o.memory (place_of l) (value_of (operation_of l)) else o.memory) (owner_at l passed (get_or o.owners e₀ 0)) (get_or o.holders e₀ 0))
-        → Next n zeros (step c) h ws gs ds (left Answered.Moved (One (access_at c l passed (read_word o.memory (place_of l)))) (picture (leaves l passed (read_at l (read_word o.memory (place_of l)))) (link_at l passed (link_of c h)))
+        → Next n zeros (step c) h ws gs ds (left Answered.Moved (Some (access_at c l passed (read_word o.memory (place_of l)))) (picture (leaves l passed (read_at l (read_word o.memory (place_of l)))) (link_at l passed (link_of c h)))
         (if writes_at l passed then write_word o.memory (place_of l) (value_of (operation_of l)) else o.memory) (owner_at l passed (get_or o.owners e₀ 0)) (get_or o.holders e₀ 0))
     access_next l passed at old t j sound =
         let w = read_word o.memory (place_of l) in
@@ -426,15 +425,15 @@ module _ (n : ℕ) (zeros : List ℕ) (o : Outcome) (h : History) (ws : List Who
         let word : w ≡ read_word ref.memory (place_of l) = ap (λ (m : List ℕ). read_word m (place_of l)) inv.memory in
         let mark : owner_at l passed owner ≡ owner_of (entry_of n) e₀ (r ∷ h)
         = ap (owner_at l passed) t.1 ∙ owner_left c l passed w (owner_of (entry_of n) e₀ h) ∙ sym (owner_here (entry_of n) e₀ r h at) in
-        subst (λ (op : Operation). Inv n zeros (left Answered.Moved (One r) y memory (owner_at l passed owner) (get_or o.holders e₀ 0)) (r ∷ h) (does c op ∷ ws) gs (λ i. delivers i (step c) Answered.Moved (ds i)))
+        subst (λ (op : Operation). Inv n zeros (left Answered.Moved (Some r) y memory (owner_at l passed owner) (get_or o.holders e₀ 0)) (r ∷ h) (does c op ∷ ws) gs (λ i. delivers i (step c) (Ok Answered.Moved) (ds i)))
         (sym (ap last_of old.lists.0))
-        (inner Answered.Moved (One r) y memory (owner_at l passed owner) (get_or o.holders e₀ 0) (r ∷ h) (does c (operation_of l) ∷ ws) (λ i. delivers i (step c) Answered.Moved (ds i)) (leaves l passed (read_at l w))
+        (inner Answered.Moved (Some r) y memory (owner_at l passed owner) (get_or o.holders e₀ 0) (r ∷ h) (does c (operation_of l) ∷ ws) (λ i. delivers i (step c) (Ok Answered.Moved) (ds i)) (leaves l passed (read_at l w))
         sound
         (ap (λ (m : List ℕ). if writes_at l passed then write_word m (place_of l) (value_of (operation_of l)) else m) inv.memory ∙ sym (ap (λ (q : Finished). q.memory) f) ∙ sym (refer_memory (entry_of n) zeros c (operation_of l) ws))
         ((λ i. access_at c l passed (word i) ∷ inv.history i) ∙ ap (λ (q : Record). q ∷ ref.history) (sym (ap (λ (q : Finished). q.access) f)) ∙ sym (refer_history (entry_of n) zeros c (operation_of l) ws))
         (owner_at_small l passed owner o.called.machine.count (inv.owners_small e₀)) (inr t.0) (λ z. absurd (no_mark c (sym z ∙ t.0)))
         (λ i d. link_other i r h (λ e. d (sym e))) (λ e d. owner_elsewhere (entry_of n) e r h (λ q. d (sym q ∙ at)))
-        (operations_other (entry_of n) zeros c (operation_of l) ws) (answers_other (entry_of n) zeros c (operation_of l) ws) (λ i d. delivers_other i c Answered.Moved (ds i) d)
+        (operations_other (entry_of n) zeros c (operation_of l) ws) (answers_other (entry_of n) zeros c (operation_of l) ws) (λ i d. delivers_other i c (Ok Answered.Moved) (ds i) d)
         (record {
           core = core_new c y small ∙ ap (picture (leaves l passed (read_at l w))) (sym (link_left c h l passed w));
           table = rw at (holder_new (get_or o.holders e₀ 0) ∙ t.0, owner_new (owner_at l passed owner) ∙ mark);
@@ -449,12 +448,12 @@ module _ (n : ℕ) (zeros : List ℕ) (o : Outcome) (h : History) (ws : List Who
     -- step 4: the lock is given back, and the answer delivered
     pub leave_next : (l : Locked) (passed : Bool) (read : ℕ) → (entry_of n (place_of l)).0 ≡ e₀ → CoreOk n zeros o h ws c (leaves l passed read) (gs c) (ds c)
         → (get_or o.holders e₀ 0 ≡ written c) × (get_or o.owners e₀ 0 ≡ owner_of (entry_of n) e₀ h)
-        → Sound (left (answer_at l passed read) Nothing (picture rests (link_of c h)) o.memory (get_or o.owners e₀ 0) 0)
-        → Next n zeros (step c) h ws gs ds (left (answer_at l passed read) Nothing (picture rests (link_of c h)) o.memory (get_or o.owners e₀ 0) 0)
+        → Sound (left (answer_at l passed read) None (picture rests (link_of c h)) o.memory (get_or o.owners e₀ 0) 0)
+        → Next n zeros (step c) h ws gs ds (left (answer_at l passed read) None (picture rests (link_of c h)) o.memory (get_or o.owners e₀ 0) 0)
     leave_next l passed read at old t sound =
-        inner (answer_at l passed read) Nothing (picture rests (link_of c h)) o.memory (get_or o.owners e₀ 0) 0 h ws (λ i. delivers i (step c) (answer_at l passed read) (ds i)) rests
+        inner (answer_at l passed read) None (picture rests (link_of c h)) o.memory (get_or o.owners e₀ 0) 0 h ws (λ i. delivers i (step c) (Ok (answer_at l passed read)) (ds i)) rests
         sound inv.memory inv.history (inv.owners_small e₀) (inl refl) (λ z. t.1)
-        (λ i d. refl) (λ e d. refl) (λ i d. refl) (λ i d. refl) (λ i d. delivers_other i c (answer_at l passed read) (ds i) d)
+        (λ i d. refl) (λ e d. refl) (λ i d. refl) (λ i d. refl) (λ i d. delivers_other i c (Ok (answer_at l passed read)) (ds i) d)
         (record {
           core = core_new c (picture rests (link_of c h)) small;
           table = tt;

@@ -1,6 +1,7 @@
 -- The five calls: the refusals in document 01's order, and what each call answers, hands out and leaves.
-use Rattle.std.specs.Prelude.{ℕ, ◌%◌, Bool, not, ◌&&◌, List, length, replicate, ◌==◌, nat_le, slice_index, slice_set, if◌then◌else◌}
+use Rattle.std.specs.Prelude.{ℕ, ◌%◌, Bool, not, ◌&&◌, List, Some, None, Ok, Err, length, replicate, ◌==◌, nat_le, slice_index, slice_set, if◌then◌else◌}
 use Rattle.rules.specs.Sizes.{cores_fit, bytes_fit, tables_fit}
+use Rattle.rules.specs.Refusals.{Tested, no_refusal, unless_refused}
 use Rattle.rules.specs.Entry.{entry_of}
 use Rattle.rules.specs.Word.{read_word, write_word}
 use Rattle.rules.specs.Kinds.{address_of, poke_kind, poke_core}
@@ -10,8 +11,9 @@ use Rattle.rules.specs.declared.entry.GuestAddress.{GuestAddress}
 use Rattle.rules.specs.declared.entry.EntryNumber.{EntryNumber}
 use Rattle.rules.specs.declared.answers.Operation.{Operation}
 use Rattle.rules.specs.declared.answers.Answer.{Answer}
-use Rattle.rules.specs.declared.answers.Answer.TheVariants.{Refused, Ready, Taken, Poked, Word}
-use Rattle.rules.specs.declared.answers.Handed.TheVariants.{Nothing, One}
+use Rattle.rules.specs.declared.answers.Answer.TheVariants.{Ready, Taken, Poked, Word}
+use Rattle.rules.specs.declared.refusals.Refusal.{Refusal}
+use Rattle.rules.specs.declared.refusals.Refusal.TheVariants.{NoSuchCore, Unaligned, Outside, LentLengths, OutOfRange, Damaged, Busy, Idle}
 use Rattle.rules.specs.declared.cores.Core.{Core}
 use Rattle.rules.specs.declared.cores.MicroStep.{MicroStep}
 use Rattle.rules.specs.declared.state.Machine.{Machine}
@@ -28,16 +30,12 @@ abbrev pub outcome : Called → List ℕ → List ℕ → List ℕ → Outcome
 outcome called memory owners holders = record { called = called; memory = memory; owners = owners; holders = holders }
 
 -- "A refusal returns its number, the state as given (start, given none, an all-zero one), and no other value; lent memory is unchanged."
-abbrev pub refused : ℕ → Machine → Called
-refused number m = record { answer = Refused number; made = Nothing; machine = m }
-
--- a call's outcome: its refusal if it has one, by the refusal's number, and else what it does
-abbrev pub unless_refused : {A : Type 0} → ℕ → (ℕ → A) → A → A
-unless_refused number refusal done = if number == 0 then done else refusal number
+abbrev pub refused : Refusal → Machine → Called
+refused refusal m = record { answer = Err refusal; made = None; machine = m }
 
 -- an answer that changes no core and makes no record
 abbrev pub answered : Answer → Machine → Called
-answered answer m = record { answer = answer; made = Nothing; machine = m }
+answered answer m = record { answer = Ok answer; made = None; machine = m }
 
 -- the machine with another core at a place
 abbrev pub with_core : Machine → ℕ → Core → Machine
@@ -58,12 +56,12 @@ abbrev pub lent_fits : Machine → ℕ → ℕ → ℕ → Bool
 lent_fits m memory owners holders = memory == m.bytes && owners == m.entries && holders == m.entries
 
 -- 2: "address not a multiple of 4"; 3: "address not below the memory size"
-abbrev pub address_refusal : ℕ → GuestAddress → ℕ
-address_refusal bytes a = if not (a.0 % 4 == 0) then 2 else if nat_le bytes a.0 then 3 else 0
+abbrev pub address_refusal : ℕ → GuestAddress → Tested
+address_refusal bytes a = if not (a.0 % 4 == 0) then Err Unaligned else if nat_le bytes a.0 then Err Outside else no_refusal
 
 -- "start 4, 1"
-unfoldable pub start_refusal : ℕ → ℕ → ℕ → ℕ → ℕ
-start_refusal count memory owners holders = if not (bytes_fit memory && tables_fit owners holders) then 4 else if not (cores_fit count) then 1 else 0
+unfoldable pub start_refusal : ℕ → ℕ → ℕ → ℕ → Tested
+start_refusal count memory owners holders = if not (bytes_fit memory && tables_fit owners holders) then Err LentLengths else if not (cores_fit count) then Err NoSuchCore else no_refusal
 
 abbrev pub all_idle : ℕ → ℕ → ℕ → Machine
 all_idle count bytes entries = record { cores = replicate 8 idle; count = count; bytes = bytes; entries = entries }
@@ -79,9 +77,12 @@ start_of count memory owners holders =
     (started count memory owners holders)
 
 -- "give 5, 1, 7, 2, 3"
-unfoldable pub give_refusal : Machine → ℕ → Operation → ℕ
+unfoldable pub give_refusal : Machine → ℕ → Operation → Tested
 give_refusal m core o =
-    if not (in_ranges m) then 5 else if nat_le m.count core then 1 else if (core_at m core).busy then 7 else address_refusal m.bytes (address_of o)
+    if not (in_ranges m) then Err OutOfRange
+    else if nat_le m.count core then Err NoSuchCore
+    else if (core_at m core).busy then Err Busy
+    else address_refusal m.bytes (address_of o)
 
 abbrev pub taken : Machine → ℕ → Operation → Called
 taken m core o = answered Taken (with_core m core (given (core_at m core) o))
@@ -90,14 +91,14 @@ unfoldable pub give_of : Machine → ℕ → Operation → Called
 give_of m core o = unless_refused (give_refusal m core o) (λ n. refused n m) (taken m core o)
 
 -- "step 5, 4, 1, 8, 6"
-unfoldable pub step_refusal : Machine → ℕ → List ℕ → List ℕ → ℕ → ℕ
+unfoldable pub step_refusal : Machine → ℕ → List ℕ → List ℕ → ℕ → Tested
 step_refusal m memory owners holders core =
-    if not (in_ranges m) then 5
-    else if not (lent_fits m memory (length owners) (length holders)) then 4
-    else if nat_le m.count core then 1
-    else if not (core_at m core).busy then 8
-    else if damaged m.count core (core_at m core) (mark_at owners (entry_at m core)) (mark_at holders (entry_at m core)) then 6
-    else 0
+    if not (in_ranges m) then Err OutOfRange
+    else if not (lent_fits m memory (length owners) (length holders)) then Err LentLengths
+    else if nat_le m.count core then Err NoSuchCore
+    else if not (core_at m core).busy then Err Idle
+    else if damaged m.count core (core_at m core) (mark_at owners (entry_at m core)) (mark_at holders (entry_at m core)) then Err Damaged
+    else no_refusal
 
 -- the micro-step of a core, on the word at its operation's address and on that address's entry
 unfoldable pub micro_step_at : Machine → List ℕ → List ℕ → List ℕ → ℕ → MicroStep
@@ -107,7 +108,7 @@ micro_step_at m memory owners holders core =
 -- what it leaves: the core, its entry's owner and holder, and the word if it writes
 unfoldable pub stepped : Machine → List ℕ → List ℕ → List ℕ → ℕ → MicroStep → Outcome
 stepped m memory owners holders core s =
-    outcome (record { answer = s.answer; made = s.made; machine = with_core m core s.core })
+    outcome (record { answer = Ok s.answer; made = s.made; machine = with_core m core s.core })
     (if s.writes then write_word memory (core_at m core).address (core_at m core).value else memory)
     (with_mark owners (entry_at m core) s.owner)
     (with_mark holders (entry_at m core) s.holder)
@@ -118,8 +119,8 @@ step_of m memory owners holders core =
     (stepped m memory owners holders core (micro_step_at m memory owners holders core))
 
 -- "poke and show 5, 4, 2, 3"
-unfoldable pub word_refusal : Machine → ℕ → GuestAddress → ℕ
-word_refusal m memory a = if not (in_ranges m) then 5 else if not (memory == m.bytes) then 4 else address_refusal m.bytes a
+unfoldable pub word_refusal : Machine → ℕ → GuestAddress → Tested
+word_refusal m memory a = if not (in_ranges m) then Err OutOfRange else if not (memory == m.bytes) then Err LentLengths else address_refusal m.bytes a
 
 -- what a poke leaves: its result, and memory
 pub record PokeOutcome : Type 0 where
@@ -132,7 +133,7 @@ poke_outcome called memory = record { called = called; memory = memory }
 -- "A poke by the bench writes one word at once and touches no mark, lock or link; it counts as one access."
 abbrev pub poked : Machine → List ℕ → GuestAddress → ℕ → PokeOutcome
 poked m memory a value =
-    poke_outcome (record { answer = Poked; made = One (record { core = poke_core; kind = poke_kind; address = a; value = value }); machine = m }) (write_word memory a value)
+    poke_outcome (record { answer = Ok Poked; made = Some (record { core = poke_core; kind = poke_kind; address = a; value = value }); machine = m }) (write_word memory a value)
 
 unfoldable pub poke_of : Machine → List ℕ → GuestAddress → ℕ → PokeOutcome
 poke_of m memory a value = unless_refused (word_refusal m (length memory) a) (λ n. poke_outcome (refused n m) memory) (poked m memory a value)

@@ -1,16 +1,16 @@
 -- What holds of the rules of this crate, beside each call's own contract. The proofs are in proofs/Lawful.antt.
-use Rattle.std.specs.Prelude.{◌≡◌, ℕ, ◌+◌, ◌/◌, ◌%◌, ◌^◌, ◌<◌, ◌≤◌, Bool, true, false, List, [], length, replicate, ◌≢◌, slice_index, if◌then◌else◌}
+use Rattle.std.specs.Prelude.{◌≡◌, ℕ, ◌+◌, ◌/◌, ◌%◌, ◌^◌, ◌<◌, ◌≤◌, Bool, true, false, List, [], Option, Some, None, length, replicate, ◌≢◌, slice_index, if◌then◌else◌}
 use Rattle.rules.specs.Sizes.{entries_fit}
 use Rattle.rules.specs.Kinds.{writes_kind, links_kind, unlinks_kind}
 use Rattle.rules.specs.Life.{nowhere, idle, micro_step}
 use Rattle.rules.specs.Ranges.{operation_occurs, in_ranges}
-use Rattle.rules.specs.Answers.{number_of, values_of}
+use Rattle.rules.specs.Refusals.{number_in}
+use Rattle.rules.specs.Answers.{values_of}
 use Rattle.rules.specs.Calls.{Outcome, outcome, all_idle, lent_fits, start_of, give_of, step_of, poke_of, show_of}
 use Rattle.rules.specs.declared.entry.GuestAddress.{GuestAddress}
 use Rattle.rules.specs.declared.entry.EntryNumber.{EntryNumber}
 use Rattle.rules.specs.declared.answers.Operation.{Operation}
-use Rattle.rules.specs.declared.answers.Handed.{Handed}
-use Rattle.rules.specs.declared.answers.Handed.TheVariants.{Nothing, One}
+use Rattle.rules.specs.declared.answers.Record.{Record}
 use Rattle.rules.specs.declared.cores.Core.{Core}
 use Rattle.rules.specs.declared.state.Machine.{Machine}
 use Rattle.rules.specs.declared.state.Called.{Called}
@@ -33,17 +33,17 @@ pub record WordLaws (read : List ℕ → GuestAddress → ℕ) (write : List ℕ
   pub bytes_stay : (memory : List ℕ) (a : GuestAddress) (value : ℕ) → Bytes memory → Bytes (write memory a value)
 
 -- what the kinds say of a record handed out: whether it writes, and the link it leaves its core with
-abbrev pub writes_made : Handed → Bool
-writes_made Nothing = false
-writes_made (One r) = writes_kind r.kind
+abbrev pub writes_made : Option Record → Bool
+writes_made None = false
+writes_made (Some r) = writes_kind r.kind
 
-abbrev pub linked_made : Handed → Core → Bool
-linked_made Nothing c = c.linked
-linked_made (One r) c = if links_kind r.kind then true else if unlinks_kind r.kind then false else c.linked
+abbrev pub linked_made : Option Record → Core → Bool
+linked_made None c = c.linked
+linked_made (Some r) c = if links_kind r.kind then true else if unlinks_kind r.kind then false else c.linked
 
-abbrev pub link_made : Handed → Core → GuestAddress
-link_made Nothing c = c.link
-link_made (One r) c = if links_kind r.kind then r.address else if unlinks_kind r.kind then nowhere else c.link
+abbrev pub link_made : Option Record → Core → GuestAddress
+link_made None c = c.link
+link_made (Some r) c = if links_kind r.kind then r.address else if unlinks_kind r.kind then nowhere else c.link
 
 -- A micro-step of an operation that can occur writes, links and ends its own link exactly as the kind of its record says.
 pub record KindLaws : Type 0 where
@@ -57,14 +57,14 @@ pub record AsFound (o : Outcome) (m : Machine) (memory owners holders : List ℕ
   pub memory_as_found : o.memory ≡ memory
   pub owners_as_found : o.owners ≡ owners
   pub holders_as_found : o.holders ≡ holders
-  pub no_record : o.called.made ≡ Nothing
+  pub no_record : o.called.made ≡ None
   pub no_value : values_of o.called.answer ≡ []
 
 abbrev pub Refused : Called → Type 0
-Refused r = number_of r.answer ≡ 0 → ⊥
+Refused r = number_in r.answer ≡ 0 → ⊥
 
 abbrev pub Accepted : Called → Type 0
-Accepted r = number_of r.answer ≡ 0
+Accepted r = number_in r.answer ≡ 0
 
 -- Each refusal leaves everything as found. (Buffers that a call is not lent are named beside it; start, given no machine, answers an all-zero one.)
 pub record RefusalLaws : Type 0 where

@@ -1,5 +1,5 @@
 -- Document 01, "Life of an operation": what each micro-step makes of a core, of its entry's owner and holder, and of the word at its address.
-use Rattle.std.specs.Prelude.{ℕ, Bool, true, false, ◌&&◌, ◌==◌, nat_eq, if◌then◌else◌}
+use Rattle.std.specs.Prelude.{ℕ, Bool, true, false, ◌&&◌, Some, None, ◌==◌, nat_eq, if◌then◌else◌}
 use Rattle.rules.specs.Sizes.{written}
 use Rattle.rules.specs.Kinds.{is_load, is_ll, is_store, code_of, address_of, value_of, kind_of}
 use Rattle.rules.specs.declared.entry.GuestAddress.{GuestAddress}
@@ -7,7 +7,6 @@ use Rattle.rules.specs.declared.answers.Operation.{Operation}
 use Rattle.rules.specs.declared.answers.Answer.{Answer}
 use Rattle.rules.specs.declared.answers.Answer.TheVariants.{Moved, Waits, Load, Ll, Store, Sc}
 use Rattle.rules.specs.declared.answers.Record.{Record}
-use Rattle.rules.specs.declared.answers.Handed.TheVariants.{Nothing, One}
 use Rattle.rules.specs.declared.cores.Core.{Core}
 use Rattle.rules.specs.declared.cores.MicroStep.{MicroStep}
 
@@ -33,7 +32,7 @@ advanced c next = record { busy = c.busy; operation = c.operation; next = next; 
 
 -- "A step that leaves an operation unfinished answers "moved"." Only the access step hands out a record.
 abbrev pub moves : Core → ℕ → ℕ → MicroStep
-moves c owner holder = record { answer = Moved; made = Nothing; core = c; owner = owner; holder = holder; writes = false }
+moves c owner holder = record { answer = Moved; made = None; core = c; owner = owner; holder = holder; writes = false }
 
 -- "Each access step also hands out the record it makes (core, kind, address, value)"
 abbrev pub record_of : ℕ → Core → ℕ → Record
@@ -42,12 +41,12 @@ record_of me c value = record { core = me; kind = kind_of c.operation c.passed; 
 -- "A load has one step: it reads and finishes." "A load's only step is its access step."
 unfoldable pub load_step : ℕ → Core → ℕ → ℕ → ℕ → MicroStep
 load_step me c owner holder word =
-    record { answer = Load word; made = One (record { core = me; kind = 1; address = c.address; value = word }); core = resting c.linked c.link; owner = owner; holder = holder; writes = false }
+    record { answer = Load word; made = Some (record { core = me; kind = 1; address = c.address; value = word }); core = resting c.linked c.link; owner = owner; holder = holder; writes = false }
 
 -- "1. Take the entry's lock if its holder is 0. Otherwise the answer is "waits" and nothing changes."
 unfoldable pub lock_step : ℕ → Core → ℕ → ℕ → MicroStep
 lock_step me c owner holder =
-    if holder == 0 then moves (advanced c 2) owner (written me) else record { answer = Waits; made = Nothing; core = c; owner = owner; holder = holder; writes = false }
+    if holder == 0 then moves (advanced c 2) owner (written me) else record { answer = Waits; made = None; core = c; owner = owner; holder = holder; writes = false }
 
 -- "2. ll: set the owner to this core."
 abbrev pub ll_mark : ℕ → Core → ℕ → ℕ → MicroStep
@@ -76,7 +75,7 @@ abbrev pub ll_access : ℕ → Core → ℕ → ℕ → ℕ → MicroStep
 ll_access me c owner holder word =
     record {
       answer = Moved;
-      made = One (record_of me c word);
+      made = Some (record_of me c word);
       core = record { busy = c.busy; operation = c.operation; next = 4; passed = c.passed; linked = true; address = c.address; value = c.value; read = word; link = c.address };
       owner = owner;
       holder = holder;
@@ -86,14 +85,14 @@ ll_access me c owner holder word =
 -- "Store: write."
 abbrev pub store_access : ℕ → Core → ℕ → ℕ → MicroStep
 store_access me c owner holder =
-    record { answer = Moved; made = One (record_of me c c.value); core = advanced c 4; owner = owner; holder = holder; writes = true }
+    record { answer = Moved; made = Some (record_of me c c.value); core = advanced c 4; owner = owner; holder = holder; writes = true }
 
 -- "sc: if passed, write and set the owner to 0; if not, leave owner and memory; in both cases the link becomes none."
 abbrev pub sc_access : ℕ → Core → ℕ → ℕ → MicroStep
 sc_access me c owner holder =
     record {
       answer = Moved;
-      made = One (record_of me c c.value);
+      made = Some (record_of me c c.value);
       core = record { busy = c.busy; operation = c.operation; next = 4; passed = c.passed; linked = false; address = c.address; value = c.value; read = c.read; link = nowhere };
       owner = if c.passed then 0 else owner;
       holder = holder;
@@ -110,7 +109,7 @@ delivered c = if is_ll c.operation then Ll c.read else if is_store c.operation t
 
 -- "4. Set the holder to 0, deliver the answer, become idle."
 abbrev pub leave_step : Core → ℕ → MicroStep
-leave_step c owner = record { answer = delivered c; made = Nothing; core = resting c.linked c.link; owner = owner; holder = 0; writes = false }
+leave_step c owner = record { answer = delivered c; made = None; core = resting c.linked c.link; owner = owner; holder = 0; writes = false }
 
 -- "A load has one step .. The others have four"
 unfoldable pub micro_step : ℕ → Core → ℕ → ℕ → ℕ → MicroStep

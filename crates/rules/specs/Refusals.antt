@@ -46,7 +46,14 @@ abbrev pub number_in : {A : Type 0} → Result A Refusal → ℕ
 number_in (Ok answer) = 0
 number_in (Err refusal) = refusal_number refusal
 
+-- the tests of a call in their order: the refusal of the first that fails, or none
+abbrev pub Tested : Type 0
+Tested = Result (Unit {0}) Refusal
+
+abbrev pub no_refusal : Tested
+no_refusal = Ok tt
+
 -- a call's outcome: its refusal if it has one, and else what it does
-abbrev pub unless : {A B : Type 0} → Result A Refusal → (Refusal → B) → B → B
-unless (Ok answer) refused done = done
-unless (Err refusal) refused done = refused refusal
+abbrev pub unless_refused : {A : Type 0} → Tested → (Refusal → A) → A → A
+unless_refused (Ok _) refused done = done
+unless_refused (Err refusal) refused done = refused refusal

@@ -1,8 +1,8 @@
 -- Runs of the machine from a fresh one: lists of calls with any arguments, the latest first, refused and waiting ones included; and what a run hands out and delivers.
-use Rattle.std.specs.Prelude.{◌≡◌, ℕ, Bool, true, false, ◌&&◌, List, [], ◌∷◌, length, ◌==◌, if◌then◌else◌}
+use Rattle.std.specs.Prelude.{◌≡◌, ℕ, Bool, true, false, ◌&&◌, List, [], ◌∷◌, Option, Some, None, Result, Ok, Err, length, ◌==◌, if◌then◌else◌}
 use Rattle.rules.specs.Entry.{entry_of}
 use Rattle.rules.specs.Life.{nowhere}
-use Rattle.rules.specs.Answers.{number_of}
+use Rattle.rules.specs.Refusals.{no_refusal, number_in}
 use Rattle.rules.specs.Calls.{Outcome, outcome, start_refusal, start_of, give_of, step_of, poke_of}
 use Rattle.rules.specs.History.{History}
 use Rattle.rules.specs.Reference.{Whole, does, pokes}
@@ -12,8 +12,8 @@ use Rattle.rules.specs.declared.answers.Operation.{Operation}
 use Rattle.rules.specs.declared.answers.Operation.TheVariants as Asked
 use Rattle.rules.specs.declared.answers.Answer.{Answer}
 use Rattle.rules.specs.declared.answers.Answer.TheVariants as Answered
-use Rattle.rules.specs.declared.answers.Handed.{Handed}
-use Rattle.rules.specs.declared.answers.Handed.TheVariants.{Nothing, One}
+use Rattle.rules.specs.declared.answers.Record.{Record}
+use Rattle.rules.specs.declared.refusals.Refusal.{Refusal}
 
 -- a call of a run, with any arguments
 pub data Call : Type 0 where
@@ -33,7 +33,7 @@ pub record Fresh (o : Outcome) : Type 0 where
   pub memory : List ℕ
   pub owners : List ℕ
   pub holders : List ℕ
-  pub accepted : start_refusal count (length memory) (length owners) (length holders) ≡ 0
+  pub accepted : start_refusal count (length memory) (length owners) (length holders) ≡ no_refusal
   pub started : o ≡ start_of count memory owners holders
 
 -- what a run leaves
@@ -42,17 +42,17 @@ after fresh [] = fresh
 after fresh (call ∷ calls) = act (after fresh calls) call
 
 -- the records handed out, the latest first
-abbrev pub handed : Handed → History → History
-handed Nothing h = h
-handed (One r) h = r ∷ h
+abbrev pub handed : Option Record → History → History
+handed None h = h
+handed (Some r) h = r ∷ h
 
 unfoldable pub records : Outcome → List Call → History
 records fresh [] = []
 records fresh (call ∷ calls) = handed (act (after fresh calls) call).called.made (records fresh calls)
 
 -- the operations that a core was given, the latest first: "Refused calls are no part of the history"
-abbrev pub taken : ℕ → Call → Answer → List Operation → List Operation
-taken c (give core operation) answer os = if core == c && number_of answer == 0 then operation ∷ os else os
+abbrev pub taken : ℕ → Call → Result Answer Refusal → List Operation → List Operation
+taken c (give core operation) answer os = if core == c && number_in answer == 0 then operation ∷ os else os
 taken c (step core) answer os = os
 taken c (poke a value) answer os = os
 
@@ -62,7 +62,6 @@ given_to fresh c (call ∷ calls) = taken c call (act (after fresh calls) call).
 
 -- the answers delivered to a core, the latest first: those of its steps that finish an operation
 abbrev pub finishes : Answer → Bool
-finishes (Answered.Refused n) = false
 finishes Answered.Ready = false
 finishes Answered.Taken = false
 finishes Answered.Moved = false
@@ -74,9 +73,13 @@ finishes (Answered.Sc v) = true
 finishes Answered.Poked = false
 finishes (Answered.Word v) = false
 
-abbrev pub delivers : ℕ → Call → Answer → List Answer → List Answer
+abbrev pub with_answer : Result Answer Refusal → List Answer → List Answer
+with_answer (Ok answer) before = if finishes answer then answer ∷ before else before
+with_answer (Err refusal) before = before
+
+abbrev pub delivers : ℕ → Call → Result Answer Refusal → List Answer → List Answer
 delivers c (give core operation) answer before = before
-delivers c (step core) answer before = if core == c && finishes answer then answer ∷ before else before
+delivers c (step core) answer before = if core == c then with_answer answer before else before
 delivers c (poke a value) answer before = before
 
 unfoldable pub delivered_to : Outcome → ℕ → List Call → List Answer
@@ -89,11 +92,11 @@ last_of [] = Asked.Load nowhere
 last_of (o ∷ os) = o
 
 -- the whole operations in the order of their access steps: at each access, the operation that its core was given last; and each poke
-abbrev pub at_access : Handed → Whole → List Whole → List Whole
-at_access Nothing w ws = ws
-at_access (One r) w ws = w ∷ ws
+abbrev pub at_access : Option Record → Whole → List Whole → List Whole
+at_access None w ws = ws
+at_access (Some r) w ws = w ∷ ws
 
-abbrev pub accessed : Call → Handed → (ℕ → List Operation) → List Whole → List Whole
+abbrev pub accessed : Call → Option Record → (ℕ → List Operation) → List Whole → List Whole
 accessed (give core operation) made given ws = ws
 accessed (step core) made given ws = at_access made (does core (last_of (given core))) ws
 accessed (poke a value) made given ws = at_access made (pokes a value) ws

@@ -1,11 +1,10 @@
 // What is asked of the machine, what it answers and what it hands out.
 ghost use Rattle.std.specs.Prelude.{◌≡◌};
 ghost use Rattle.rules.specs.Kinds.{code_of, address_of, value_of};
-ghost use Rattle.rules.specs.Answers.{number_of};
 
 use crate::entry::GuestAddress;
 
-#[derive(Clone, Copy)]
+#[derive(Clone, Copy, PartialEq, Eq, Debug)]
 pub enum Operation {
     Load(GuestAddress),
     Ll(GuestAddress),
@@ -13,10 +12,9 @@ pub enum Operation {
     Sc(GuestAddress, u32),
 }
 
-// The answers of every call, named as the script program writes them.
-#[derive(Clone, Copy)]
+// The answers of every call that is not refused, named as the script program writes them.
+#[derive(Clone, Copy, PartialEq, Eq, Debug)]
 pub enum Answer {
-    Refused(u32),
     Ready,
     Taken,
     Moved,
@@ -31,19 +29,12 @@ pub enum Answer {
 
 // One access: which core made it (255: the bench), its kind, its address, and the value read,
 // written or not written.
-#[derive(Clone, Copy)]
+#[derive(Clone, Copy, PartialEq, Eq, Debug)]
 pub struct Record {
     pub core: u8,
     pub kind: u8,
     pub address: GuestAddress,
     pub value: u32,
-}
-
-// The record that a call hands out, if it makes one.
-#[derive(Clone, Copy)]
-pub enum Handed {
-    Nothing,
-    One(Record),
 }
 
 impl Operation {
@@ -62,10 +53,8 @@ impl Operation {
         ensures { result ≡ address_of self }
     {
         match self {
-            Operation::Load(a) => a,
-            Operation::Ll(a) => a,
-            Operation::Store(a, _) => a,
-            Operation::Sc(a, _) => a,
+            Operation::Load(a) | Operation::Ll(a) | Operation::Store(a, _) | Operation::Sc(a, _) =>
+                a,
         }
     }
 
@@ -73,31 +62,8 @@ impl Operation {
         ensures { result ≡ value_of self }
     {
         match self {
-            Operation::Load(_) => 0,
-            Operation::Ll(_) => 0,
-            Operation::Store(_, v) => v,
-            Operation::Sc(_, v) => v,
-        }
-    }
-}
-
-impl Answer {
-    // The number that the rules give the answer.
-    pub fn number(self) -> u32
-        ensures { result ≡ number_of self }
-    {
-        match self {
-            Answer::Refused(n) => n,
-            Answer::Ready => 0,
-            Answer::Taken => 0,
-            Answer::Moved => 0,
-            Answer::Waits => 0,
-            Answer::Load(_) => 0,
-            Answer::Ll(_) => 0,
-            Answer::Store => 0,
-            Answer::Sc(_) => 0,
-            Answer::Poked => 0,
-            Answer::Word(_) => 0,
+            Operation::Load(_) | Operation::Ll(_) => 0,
+            Operation::Store(_, v) | Operation::Sc(_, v) => v,
         }
     }
 }

@@ -4,11 +4,11 @@ ghost use Rattle.rules.specs.Entry.{entry_of};
 
 // A byte's address in guest memory.
 #[repr(C)]
-#[derive(Clone, Copy)]
+#[derive(Clone, Copy, PartialEq, Eq, Default, Debug)]
 pub struct GuestAddress(pub u32);
 
 // The number of an entry of the table.
-#[derive(Clone, Copy)]
+#[derive(Clone, Copy, PartialEq, Eq, Debug)]
 pub struct EntryNumber(pub usize);
 
 impl GuestAddress {
@@ -16,15 +16,8 @@ impl GuestAddress {
     pub fn place(self) -> usize
         ensures { result ≡ self.0 }
     {
-        let a = self.0;
-        wide(a)
+        self.0 as usize
     }
-}
-
-fn wide(a: u32) -> usize
-    ensures { result ≡ a }
-{
-    a as usize
 }
 
 // The entry of an address. Where the entries are a power of two the division is a mask; with no

@@ -11,7 +11,7 @@ mod entry;
 mod refusals;
 mod state;
 
-pub use answers::{Answer, Handed, Operation, Record};
+pub use answers::{Answer, Operation, Record};
 pub use cores::{Core, MicroStep};
 pub use entry::{EntryNumber, GuestAddress, entry_of};
 pub use refusals::{Refusal, number_of};

@@ -5,24 +5,24 @@ ghost use Rattle.rules.specs.Refusals.{refusal_number, number_in};
 
 #[derive(Clone, Copy, PartialEq, Eq, Debug)]
 pub enum Refusal {
-    NoSuchCore,
-    Unaligned,
-    Outside,
-    LentLengths,
-    OutOfRange,
-    Damaged,
-    Busy,
-    Idle,
-    NotUnderstood,
-    NoMachine,
-    BlockMark,
-    BlockCheck,
-    BlockNumber,
-    RecordCount,
-    RecordField,
-    BlockLength,
-    Full,
-    Closed,
+    NoSuchCore = 1,
+    Unaligned = 2,
+    Outside = 3,
+    LentLengths = 4,
+    OutOfRange = 5,
+    Damaged = 6,
+    Busy = 7,
+    Idle = 8,
+    NotUnderstood = 9,
+    NoMachine = 10,
+    BlockMark = 11,
+    BlockCheck = 12,
+    BlockNumber = 13,
+    RecordCount = 14,
+    RecordField = 15,
+    BlockLength = 16,
+    Full = 17,
+    Closed = 18,
 }
 
 impl Refusal {
@@ -30,26 +30,7 @@ impl Refusal {
     pub fn number(self) -> u32
         ensures { result ≡ refusal_number self }
     {
-        match self {
-            Refusal::NoSuchCore => 1,
-            Refusal::Unaligned => 2,
-            Refusal::Outside => 3,
-            Refusal::LentLengths => 4,
-            Refusal::OutOfRange => 5,
-            Refusal::Damaged => 6,
-            Refusal::Busy => 7,
-            Refusal::Idle => 8,
-            Refusal::NotUnderstood => 9,
-            Refusal::NoMachine => 10,
-            Refusal::BlockMark => 11,
-            Refusal::BlockCheck => 12,
-            Refusal::BlockNumber => 13,
-            Refusal::RecordCount => 14,
-            Refusal::RecordField => 15,
-            Refusal::BlockLength => 16,
-            Refusal::Full => 17,
-            Refusal::Closed => 18,
-        }
+        self as u32
     }
 }
 

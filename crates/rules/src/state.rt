@@ -2,8 +2,9 @@
 ghost use Rattle.std.specs.Prelude.{◌≡◌};
 ghost use Rattle.rules.specs.Calls.{all_idle, refused, answered};
 
-use crate::answers::{Answer, Handed};
+use crate::answers::{Answer, Record};
 use crate::cores::Core;
+use crate::refusals::Refusal;
 
 // The sizes are those of the lent buffers: memory's bytes, and the entries of each table. Laid out as
 // in C, so that a bench can keep one.
@@ -18,8 +19,8 @@ pub struct Machine {
 
 #[derive(Clone, Copy)]
 pub struct Called {
-    pub answer: Answer,
-    pub made: Handed,
+    pub answer: Result<Answer, Refusal>,
+    pub made: Option<Record>,
     pub machine: Machine,
 }
 
@@ -27,10 +28,8 @@ impl Machine {
     pub fn all_idle(count: usize, bytes: usize, entries: usize) -> Machine
         ensures { result ≡ all_idle count bytes entries }
     {
-        let idle = Core::idle();
-        let cores = [idle; 8];
         Machine {
-            cores,
+            cores: [Core::idle(); 8],
             count,
             bytes,
             entries,
@@ -39,12 +38,12 @@ impl Machine {
 }
 
 impl Called {
-    pub fn refused(number: u32, m: Machine) -> Called
-        ensures { result ≡ refused number m }
+    pub fn refused(refusal: Refusal, m: Machine) -> Called
+        ensures { result ≡ refused refusal m }
     {
         Called {
-            answer: Answer::Refused(number),
-            made: Handed::Nothing,
+            answer: Err(refusal),
+            made: None,
             machine: m,
         }
     }
@@ -53,8 +52,8 @@ impl Called {
         ensures { result ≡ answered answer m }
     {
         Called {
-            answer,
-            made: Handed::Nothing,
+            answer: Ok(answer),
+            made: None,
             machine: m,
         }
     }

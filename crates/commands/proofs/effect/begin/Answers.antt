@@ -1,9 +1,10 @@
-use Rattle.commands.proofs.Lent.{after_new, new_refused}
+use Rattle.commands.proofs.Begun.{after_new}
+use Rattle.commands.specs.Effect.{new_of}
 use Rattle.commands.proofs.effect.begin.Goals as goal
 
 pub returns-then-not-b-memory : goal.returns-then-not-b-memory
-returns-then-not-b-memory c = let a = c.args in
-    new_refused a.session a.memory.now a.owners.now a.holders.now a.cores a.bytes a.entries c.if-not-b-memory.true c.refused.result c.refused.ensures
+unfolding new_of
+returns-then-not-b-memory c = rw (c.if-not-b-memory.true, c.refused.ensures)
 
 pub returns : goal.returns
 returns c = let a = c.args in

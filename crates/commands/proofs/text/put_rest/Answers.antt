@@ -12,7 +12,7 @@ returns c = let a = c.args in
     let two = c.put_answer-second in
     let three = c.put_words-third in
     let four = c.put in
-    let number = c.number in
+    let number = c.number_of in
     let p : Put (space ∷ []) a.at a.out.now one.new.out one.result = record { bytes = one.ensures.out_after; ends = one.ensures.value } in
     let q : Put (number_text number.result) one.result one.new.out two.new.out two.result = record { bytes = two.ensures.out_after; ends = two.ensures.value } in
     let r : Put (words_of a.answer) two.result two.new.out three.new.out three.result = record { bytes = three.ensures.out_after; ends = three.ensures.value } in

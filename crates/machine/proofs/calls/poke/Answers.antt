@@ -1,15 +1,8 @@
-use Rattle.std.proofs.Common.{length, sym, ◌∙◌, eq-eqb, ne_eqb}
-use Rattle.rules.specs.Calls.{poke_of}
-use Rattle.rules.proofs.Accepted.{word_accepted, word_lent}
+use Rattle.machine.proofs.Knowing.{poke_put}
 use Rattle.machine.proofs.calls.poke.Goals as goal
 
-pub returns-then-number-ne0-clause-outcome : goal.returns-then-number-ne0-clause-outcome
-unfolding poke_of
-returns-then-number-ne0-clause-outcome c = rw (← c.word_refusal-number.ensures, ne_eqb _ _ c.if-number-ne0.true, c.refused.ensures)
+pub returns-in-Ok : goal.returns-in-Ok
+returns-in-Ok c = let p = poke_put c.args.m (cc) _ _ _ _ _ c.in-Ok.ensures in record { number = p.0; outcome = p.1 }
 
-pub write_word-requires : goal.write_word-requires
-write_word-requires c = let a = c.args in word_lent (word_accepted a.m (length a.memory.now) a.address (sym c.word_refusal-number.ensures ∙ c.if-number-ne0.false))
-
-pub returns-clause-outcome : goal.returns-clause-outcome
-unfolding poke_of
-returns-clause-outcome c = rw (← c.word_refusal-number.ensures, eq-eqb _ _ c.if-number-ne0.false, c.write_word.ensures)
+pub returns-in-Err : goal.returns-in-Err
+returns-in-Err c = let p = poke_put c.args.m (cc) _ _ _ _ _ c.in-Err.ensures in rw c.refused-in-Err.ensures (record { number = p.0; outcome = p.1 })

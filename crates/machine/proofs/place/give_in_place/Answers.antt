@@ -1,7 +1,12 @@
-use Rattle.machine.proofs.Acting.{give_put}
+use Rattle.std.proofs.Common.{◌≡◌, Err, rules}
+use Rattle.machine.proofs.Knowing.{give_put}
 use Rattle.machine.proofs.place.give_in_place.Goals as goal
 
-pub returns-clause-outcome : goal.returns-clause-outcome
-returns-clause-outcome c =
-    rw (← c.fits-fits.ensures.machine_unchanged)
-    (give_put c.fits-fits.new.machine c.args.core c.args.operation _ _ c.granted-granted.ensures.core_value c.granted-granted.ensures.answer_value)
+pub returns-in_err-machine : goal.returns-in_err-machine
+returns-in_err-machine c =
+    let p = give_put c.args.machine.now (cc) _ _ _ (rw c.of.ensures at c.in_err-machine.ensures) in
+    let r : c.from_residual.result ≡ Err c.in_err-machine.field-0.0 = search rules in
+    rw r (record { number = p.0; outcome = p.1 })
+
+pub returns : goal.returns
+returns c = let p = give_put c.args.machine.now (cc) _ _ _ (rw c.of.ensures at c.in_ok-machine.ensures) in record { number = p.0; outcome = p.1 }
