@@ -51,7 +51,7 @@ put_taken out text at h =
     take_at (take at out ++ text) (drop (at + length text) out) (at + length text) (length-append (take at out) text ∙ (rw length-take (omega arith)))
 
 -- a line is read, and its command is run
-as_line : (w : Work) (line : List ℕ) (a : After) (command : Command) → a ≡ run_command w.session w.memory w.owners w.holders command → command ≡ command_of line
+as_line : (w : Work) (line : List ℕ) (a : After) (command : Option Command) → a ≡ run_command w.session w.memory w.owners w.holders command → command ≡ command_of line
     → a ≡ run_line w.session w.memory w.owners w.holders line
 unfolding run_line
 as_line w line a command d e = d ∙ ap (run_command w.session w.memory w.owners w.holders) e
@@ -118,7 +118,7 @@ pub record Turned (watch : Bool) (start : Work) (input first : List ℕ) (at : �
 module _ (watch : Bool) (start : Work) (input first : List ℕ) (at : ℕ) (w : Work) (next : ℕ) (out : List ℕ) (to : ℕ) (line : LineNumber)
     (stands : Stands watch start input first at w next out to line) (room : can_answer (length out) to w.answered ≡ true)
     (n : ℕ) (found : n ≡ length (first_line (drop next input))) (more : n + 1 ≤ length (drop next input))
-    (command : Command) (reads : command ≡ command_of (handed (first_line (drop next input))))
+    (command : Option Command) (reads : command ≡ command_of (handed (first_line (drop next input))))
     (a : After) (runs : a ≡ run_command w.session w.memory w.owners w.holders command)
     (line₁ : LineNumber) (counted : line₁ ≡ counted_on line (w.answered + 1)) (out₁ : List ℕ) (to₁ : ℕ)
     (put : out₁ ≡ line_put (digits_of (w.answered + 1) line₁) a.ran.answer out to) (ends : to₁ ≡ line_end (digits_of (w.answered + 1) line₁) a.ran.answer (length out) to)
@@ -186,7 +186,7 @@ module _ (watch : Bool) (start : Work) (input first : List ℕ) (at : ℕ) (w : 
 pub turned_to : (watch : Bool) (start : Work) (input first : List ℕ) (at : ℕ) (w : Work) (next : ℕ) (out : List ℕ) (to : ℕ) (line : LineNumber)
     → Stands watch start input first at w next out to line → can_answer (length out) to w.answered ≡ true
     → (n : ℕ) → n ≡ length (first_line (drop next input)) → n + 1 ≤ length (drop next input)
-    → (command : Command) → command ≡ command_of (handed (first_line (drop next input)))
+    → (command : Option Command) → command ≡ command_of (handed (first_line (drop next input)))
     → (a : After) → a ≡ run_command w.session w.memory w.owners w.holders command
     → (count : ℕ) → w.answered + 1 ≡ count
     → (line₁ : LineNumber) → line₁ ≡ counted_on line count → (out₁ : List ℕ) (to₁ : ℕ)

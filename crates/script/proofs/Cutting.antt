@@ -10,13 +10,14 @@ use lib.ListN.{length, get_or, take, drop, length-take, length-drop}
 use lib.Seq.{paste, take_all, take-paste, take-take}
 use lib.Dec.{eqb, leb}
 use borrow.Author.Tests.{ne_eqb, leb-true, leb-false}
-use Rattle.std.specs.Prelude.{cond}
+use Rattle.std.specs.Prelude.{cond, Option, Some}
 use Rattle.std.specs.List.{position_or_len}
 use Rattle.std.proofs.lemmas.List.Sums.{position_or_len_is}
 use Rattle.memchr.specs.Find.{Nowhere, NoneBefore, Passes, is_byte}
 use Rattle.std.proofs.lemmas.List.Recursion.{is_position_or_len}
 use Rattle.commands.specs.Grammar.{step_word, command_of}
 use Rattle.commands.specs.Promises.{ShortStep}
+use Rattle.commands.specs.declared.grammar.Command.{Command}
 use Rattle.commands.specs.declared.grammar.Command.TheVariants.{Step}
 use Rattle.script.specs.Lines.{first_line, whole_from, whole_lines, left_from, unfinished, handed, handed_on, between}
 use Rattle.script.specs.Answering.{lines_in}
@@ -161,5 +162,5 @@ module _ (s : List ℕ) (core : ℕ) (is : ShortStep s core) where
   pub short_ends : 7 ≤ length s
   short_ends = let e = ap length is.line in omega (arith, e, length-drop {A = ℕ})
 
-  pub short_command : Step core ≡ command_of (handed (first_line s))
+  pub short_command : ◌≡◌ {A = Option Command} (Some (Step core)) (command_of (handed (first_line s)))
   short_command = rw short_first (sym is.command)

@@ -1,9 +1,10 @@
 -- Lines are answered one after the other, up to a stop.
-use Rattle.std.specs.Prelude.{Bool, true, false, ◌&&◌, List, [], ◌∷◌, ℕ, ◌+◌, length, leb, ltb, Option, None, Some, is_some, if◌then◌else◌}
+use Rattle.std.specs.Prelude.{Bool, true, false, ◌&&◌, List, [], ◌∷◌, ℕ, ◌+◌, length, leb, ltb, Option, None, Some, is_some, Result, Ok, Err, if◌then◌else◌}
+use Rattle.std.specs.Option.{option_map}
 use Rattle.rules.specs.declared.answers.Answer.{Answer}
-use Rattle.rules.specs.declared.answers.Answer.TheVariants.{Refused, Ready, Taken, Moved, Waits, Load, Ll, Store, Sc, Poked, Word}
-use Rattle.rules.specs.declared.answers.Handed.{Handed}
-use Rattle.rules.specs.declared.answers.Handed.TheVariants as made
+use Rattle.rules.specs.declared.answers.Answer.TheVariants.{Ready, Taken, Moved, Waits, Load, Ll, Store, Sc, Poked, Word}
+use Rattle.rules.specs.declared.answers.Record.{Record}
+use Rattle.rules.specs.declared.refusals.Refusal.{Refusal}
 use Rattle.machine.specs.declared.place.Stepped.{Stepped}
 use Rattle.commands.specs.Effect.{After, after}
 use Rattle.commands.specs.Texts.{answer_put, answer_end}
@@ -29,30 +30,25 @@ answer_room = 64
 abbrev pub can_answer : ℕ → ℕ → ℕ → Bool
 can_answer lent at answered = leb (at + answer_room) lent && ltb answered last_number
 
-abbrev pub is_ready : Answer → Bool
-is_ready (Refused n) = false
-is_ready Ready = true
-is_ready Taken = false
-is_ready Moved = false
-is_ready Waits = false
-is_ready (Load v) = false
-is_ready (Ll v) = false
-is_ready Store = false
-is_ready (Sc v) = false
-is_ready Poked = false
-is_ready (Word v) = false
+abbrev pub is_ready : Result Answer Refusal → Bool
+is_ready (Ok Ready) = true
+is_ready (Ok Taken) = false
+is_ready (Ok Moved) = false
+is_ready (Ok Waits) = false
+is_ready (Ok (Load v)) = false
+is_ready (Ok (Ll v)) = false
+is_ready (Ok Store) = false
+is_ready (Ok (Sc v)) = false
+is_ready (Ok Poked) = false
+is_ready (Ok (Word v)) = false
+is_ready (Err refusal) = false
 
--- the record that a line made, if it made one
-abbrev pub record_made : Handed → Option Event
-record_made made.Nothing = None
-record_made (made.One r) = Some (event.Made r)
-
--- what an archive has to know of a line
-abbrev pub event_of : Answer → Handed → Option Event
-event_of answer made = if is_ready answer then Some event.Begun else record_made made
+-- what an archive has to know of a line: that it began a machine, or the record that it made
+abbrev pub event_of : Result Answer Refusal → Option Record → Option Event
+event_of answer made = if is_ready answer then Some event.Begun else option_map event.Made made
 
 -- where no archive is kept, no event is looked for
-abbrev pub seen_of : Bool → Answer → Handed → Option Event
+abbrev pub seen_of : Bool → Result Answer Refusal → Option Record → Option Event
 seen_of watch answer made = if watch then event_of answer made else None
 
 -- where the answering stopped: the lines that are left, the output so far and the event that it stopped for
