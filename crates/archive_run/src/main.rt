@@ -8,12 +8,11 @@ mod write;
 
 use std::io;
 
-fn zeros() -> [u8; 2048] {
-    [0; 2048]
-}
+// The archive's four blocks.
+type Blocks = [[u8; 512]; 4];
 
 fn main(rt: HostRuntime) -> io::Result<()> {
-    let mut archive = zeros();
+    let mut archive = [[0; 512]; 4];
     write::run(&rt, &mut archive)?;
     write::invented(&rt)?;
     read::blocks(&rt, &archive)?;

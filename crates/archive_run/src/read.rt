@@ -1,77 +1,48 @@
 // The archive is read back, block by block and whole.
-ghost use Rattle.std.specs.Prelude.{◌<◌, length, ◌≡◌};
-
-use crate::say;
+use crate::Blocks;
+use crate::say::line;
+use archive::{check_archive, check_block, record_of_number, turn_through};
 use std::io;
 
 // The records of a block, in turn, and past the last. 32 are asked for.
-fn block(rt: &HostRuntime, archive: &[u8], number: u32) -> io::Result<()>
-    requires archive_len { length archive.now ≡ 2048 }
-    requires number_bound { number < 4 }
-{
-    let at = 512 * (number as usize);
+fn places(rt: &HostRuntime, block: &[u8; 512], number: u32) -> io::Result<()> {
     let mut place = 0;
-    let mut asked: usize = 0;
-    while asked < 32 {
-        rt.write_all(b"place")?;
-        let turn = archive::turn_through(&archive[at..at + 512], place, number, false);
-        let read = turn.read;
-        say::read(rt, read)?;
-        say::end(rt)?;
+    for _ in 0..32 {
+        let turn = turn_through(block, place, number, false);
+        line(rt, "place", turn.read)?;
         place = turn.place;
-        asked += 1;
     }
     Ok(())
 }
 
-fn check(rt: &HostRuntime, block: &[u8], expected: u32, short: bool) -> io::Result<()> {
-    rt.write_all(b"check")?;
-    say::checked(rt, archive::check_block(block, expected, short))?;
-    say::end(rt)
+pub(crate) fn blocks(rt: &HostRuntime, archive: &Blocks) -> io::Result<()> {
+    for number in 0..4 {
+        places(rt, &archive[number as usize], number)?;
+    }
+    let first = &archive[0];
+    line(rt, "check", check_block(first, 0, false))?;
+    line(rt, "check", check_block(first, 0, true))?;
+    line(rt, "check", check_block(first, 1, false))?;
+    line(rt, "check", check_block(first, 1, true))?;
+    line(rt, "check", check_block(first, 1048576, false))?;
+    line(rt, "check", check_block(&first[..511], 0, false))?;
+    line(
+        rt,
+        "check",
+        check_block(&archive.as_flattened()[1..513], 0, false),
+    )
 }
 
-pub(crate) fn blocks(rt: &HostRuntime, archive: &[u8]) -> io::Result<()>
-    requires { length archive.now ≡ 2048 }
-{
-    block(rt, archive, 0)?;
-    block(rt, archive, 1)?;
-    block(rt, archive, 2)?;
-    block(rt, archive, 3)?;
-    check(rt, &archive[0..512], 0, false)?;
-    check(rt, &archive[0..512], 0, true)?;
-    check(rt, &archive[0..512], 1, false)?;
-    check(rt, &archive[0..512], 1, true)?;
-    check(rt, &archive[0..512], 1048576, false)?;
-    check(rt, &archive[0..511], 0, false)?;
-    check(rt, &archive[1..513], 0, false)
-}
-
-fn whole(rt: &HostRuntime, archive: &[u8]) -> io::Result<()> {
-    rt.write_all(b"whole")?;
-    say::whole(rt, archive::check_archive(archive))?;
-    say::end(rt)
-}
-
-fn sought(rt: &HostRuntime, archive: &[u8], number: u32) -> io::Result<()> {
-    rt.write_all(b"record")?;
-    say::sought(rt, archive::record_of_number(archive, number))?;
-    say::end(rt)
-}
-
-pub(crate) fn wholes(rt: &HostRuntime, archive: &[u8]) -> io::Result<()>
-    requires { length archive.now ≡ 2048 }
-{
-    whole(rt, archive)?;
-    whole(rt, &archive[0..0])?;
-    whole(rt, &archive[0..1536])?;
-    whole(rt, &archive[0..2047])?;
-    whole(rt, &archive[512..2048])?;
-    sought(rt, archive, 0)?;
-    sought(rt, archive, 30)?;
-    sought(rt, archive, 31)?;
-    sought(rt, archive, 99)?;
-    sought(rt, archive, 100)?;
-    sought(rt, archive, 4294967295)?;
-    sought(rt, &archive[0..2047], 0)?;
-    sought(rt, &archive[512..2048], 0)
+pub(crate) fn wholes(rt: &HostRuntime, archive: &Blocks) -> io::Result<()> {
+    let all = archive.as_flattened();
+    let but_last = archive[..3].as_flattened();
+    let but_first = archive[1..].as_flattened();
+    for bytes in [all, &[], but_last, &all[0..2047], but_first] {
+        line(rt, "whole", check_archive(bytes))?;
+    }
+    for number in [0, 30, 31, 99, 100, u32::MAX] {
+        line(rt, "record", record_of_number(all, number))?;
+    }
+    line(rt, "record", record_of_number(&all[0..2047], 0))?;
+    line(rt, "record", record_of_number(but_first, 0))
 }

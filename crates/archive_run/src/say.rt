@@ -1,61 +1,68 @@
-// The lines that are printed.
-use archive::{Checked, Read, Sought, Whole, Wrote};
-use machine::Record;
+// The lines that are printed: a call's word, its answer's number, and then what it hands out or which block refuses.
+use archive::{ArchiveRefusal, Numbered};
+use machine::Refusal;
 use std::io;
 
-pub(crate) fn number(rt: &HostRuntime, n: u64) -> io::Result<()> {
-    print!(rt; " {n}")
+pub(crate) fn line(rt: &HostRuntime, call: &str, answer: impl Told) -> io::Result<()> {
+    print!(rt; "{call}")?;
+    answer.told(rt)?;
+    println!(rt;)
 }
 
-pub(crate) fn end(rt: &HostRuntime) -> io::Result<()> {
-    rt.write_all(b"\n")
+pub(crate) trait Told: Drop {
+    fn told(self, rt: &HostRuntime) -> io::Result<()>;
 }
 
-pub(crate) fn wrote(rt: &HostRuntime, answer: Wrote) -> io::Result<()> {
-    number(rt, answer.number() as u64)?;
-    match answer {
-        Wrote::Refused(_) => rt.write_all(b" refused"),
-        Wrote::Nothing => rt.write_all(b" nothing"),
-        Wrote::Block => rt.write_all(b" block"),
+impl<T: Told, E: Told> Told for Result<T, E> {
+    fn told(self, rt: &HostRuntime) -> io::Result<()> {
+        match self {
+            Ok(answer) => answer.told(rt),
+            Err(refusal) => refusal.told(rt),
+        }
     }
 }
 
-pub(crate) fn checked(rt: &HostRuntime, answer: Checked) -> io::Result<()> {
-    number(rt, answer.number() as u64)
-}
-
-fn record(rt: &HostRuntime, n: u32, r: Record) -> io::Result<()> {
-    number(rt, n as u64)?;
-    number(rt, r.core as u64)?;
-    number(rt, r.kind as u64)?;
-    number(rt, r.address.0 as u64)?;
-    number(rt, r.value as u64)
-}
-
-pub(crate) fn read(rt: &HostRuntime, answer: Read) -> io::Result<()> {
-    number(rt, answer.number() as u64)?;
-    match answer {
-        Read::Refused(_) => Ok(()),
-        Read::Nothing => rt.write_all(b" nothing"),
-        Read::One(n, r) => record(rt, n, r),
+// A good block.
+impl Told for () {
+    fn told(self, rt: &HostRuntime) -> io::Result<()> {
+        print!(rt; " 0")
     }
 }
 
-pub(crate) fn whole(rt: &HostRuntime, answer: Whole) -> io::Result<()> {
-    number(rt, answer.number() as u64)?;
-    match answer {
-        Whole::Refused(_) => rt.write_all(b" -"),
-        Whole::RefusedAt(_, block) => number(rt, block as u64),
-        Whole::Holds(records) => number(rt, records as u64),
+// The record at a place or of a number.
+impl Told for Option<Numbered> {
+    fn told(self, rt: &HostRuntime) -> io::Result<()> {
+        match self {
+            None => print!(rt; " 0 nothing"),
+            Some(Numbered { number, record: r }) => {
+                print!(rt;
+                    " 0 {number} {} {} {} {}",
+                    r.core, r.kind, r.address.0, r.value
+                )
+            }
+        }
     }
 }
 
-pub(crate) fn sought(rt: &HostRuntime, answer: Sought) -> io::Result<()> {
-    number(rt, answer.number() as u64)?;
-    match answer {
-        Sought::Refused(_) => rt.write_all(b" -"),
-        Sought::RefusedAt(_, block) => number(rt, block as u64),
-        Sought::Nothing => rt.write_all(b" nothing"),
-        Sought::One(n, r) => record(rt, n, r),
+// How many records an archive holds.
+impl Told for usize {
+    fn told(self, rt: &HostRuntime) -> io::Result<()> {
+        print!(rt; " 0 {self}")
+    }
+}
+
+impl Told for Refusal {
+    fn told(self, rt: &HostRuntime) -> io::Result<()> {
+        print!(rt; " {}", self.number())
+    }
+}
+
+impl Told for ArchiveRefusal {
+    fn told(self, rt: &HostRuntime) -> io::Result<()> {
+        let number = self.number();
+        match self {
+            ArchiveRefusal::Length => print!(rt; " {number} -"),
+            ArchiveRefusal::Block { index, .. } => print!(rt; " {number} {index}"),
+        }
     }
 }

@@ -1,7 +1,9 @@
 -- What a bench reads out of a packed answer, by the header's three macros: the number and the value that document 01 gives it.
-use Rattle.std.specs.Prelude.{ℕ, ◌<◌, ◌%◌, ◌/◌, ◌≡◌, List, [], ◌∷◌}
-use Rattle.rules.specs.Answers.{number_of, values_of}
+use Rattle.std.specs.Prelude.{ℕ, ◌%◌, ◌/◌, ◌≡◌, List, [], ◌∷◌, Result}
+use Rattle.rules.specs.Answers.{values_of}
+use Rattle.rules.specs.Refusals.{number_in}
 use Rattle.rules.specs.declared.answers.Answer.{Answer}
+use Rattle.rules.specs.declared.refusals.Refusal.{Refusal}
 use Rattle.bench.specs.Packed.{packed}
 
 abbrev pub number_bits : ℕ → ℕ
@@ -15,10 +17,10 @@ abbrev pub value_in : List ℕ → ℕ
 value_in [] = 0
 value_in (v ∷ vs) = v
 
-pub record Unpacks (a : Answer) : Type 0 where
-  pub number : number_bits (packed a) ≡ number_of a
+pub record Unpacks (a : Result Answer Refusal) : Type 0 where
+  pub number : number_bits (packed a) ≡ number_in a
   pub value : value_bits (packed a) ≡ value_in (values_of a)
 
--- of every answer whose number is one of the rules'
+-- of every answer, a refusal too
 abbrev pub EachAnswerUnpacks : Type 0
-EachAnswerUnpacks = (a : Answer) → number_of a < 19 → Unpacks a
+EachAnswerUnpacks = (a : Result Answer Refusal) → Unpacks a

@@ -1,4 +1,5 @@
 pub mod Packed
+pub mod Left
 pub mod Machines
 pub mod Archives
 pub mod Laws

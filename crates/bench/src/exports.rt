@@ -1,11 +1,12 @@
 // The calls as bench/malthobre.h declares them; the crate `bench_c` exports them to C.
 ghost use Rattle.std.specs.Prelude.{◌≡◌};
-ghost use Rattle.bench.specs.Machines.{left, start_left, step_left, poke_left, start_call, give_call, step_call, poke_call, show_call};
-ghost use Rattle.bench.specs.Archives.{new_left, write_left, read_left, new_call, add_call, close_call, check_call, record_call, whole_call, sought_call};
+ghost use Rattle.bench.specs.Left.{left};
+ghost use Rattle.bench.specs.Machines.{start_left, step_left, poke_left, start_call, give_call, step_call, poke_call, show_call};
+ghost use Rattle.bench.specs.Archives.{write_left, new_call, add_call, close_call, check_call, record_call, whole_call, sought_call};
 
-use crate::{archives, machines, packed};
-use archive::Writer;
-use machine::Machine;
+use crate::packed::{Packed, asked_of, handed_bytes, read_bytes};
+use archive::{Put, Writer, decode_record};
+use machine::{GuestAddress, Machine, Refusal};
 
 pub fn malthobre_start(
     m: &mut Machine,
@@ -16,17 +17,18 @@ pub fn malthobre_start(
 ) -> u64
     ensures { start_left result m.new memory.new owners.new holders.new ≡ start_call count memory.old owners.old holders.old }
 {
-    let s = machines::start(count, memory, owners, holders);
-    *m = s.machine;
-    s.answer
+    let called = machine::start(count, memory, owners, holders);
+    *m = called.machine;
+    called.answer.packed()
 }
 
 pub fn malthobre_give(m: &mut Machine, core: usize, operation: u8, address: u32, value: u32) -> u64
     ensures { left result m.new ≡ give_call m.old core operation address value }
 {
-    let asking = packed::asking_for(operation, address, value);
-    let answer = machine::give_in_place(m, core, asking.operation);
-    packed::given(asking.known, answer)
+    match asked_of(operation, address, value) {
+        Some(asked) => machine::give_in_place(m, core, asked).packed(),
+        None => Refusal::NotUnderstood.packed(),
+    }
 }
 
 pub fn malthobre_step(
@@ -39,8 +41,9 @@ pub fn malthobre_step(
 ) -> u64
     ensures { step_left result m.new memory.new owners.new holders.new made.new ≡ step_call m.old memory.old owners.old holders.old core }
 {
-    let s = machine::step_in_place(m, memory, owners, holders, core);
-    machines::told(s, made)
+    let stepped = machine::step_in_place(m, memory, owners, holders, core);
+    *made = handed_bytes(stepped.made);
+    stepped.answer.packed()
 }
 
 pub fn malthobre_poke(
@@ -52,47 +55,47 @@ pub fn malthobre_poke(
 ) -> u64
     ensures { poke_left result m.new memory.new made.new ≡ poke_call m.old memory.old address value }
 {
-    let s = machines::poke(*m, memory, address, value, made);
-    *m = s.machine;
-    s.answer
+    let called = machine::poke(*m, memory, GuestAddress(address), value);
+    *m = called.machine;
+    *made = handed_bytes(called.made);
+    called.answer.packed()
 }
 
 pub fn malthobre_show(m: &mut Machine, memory: &[u8], address: u32) -> u64
     ensures { left result m.new ≡ show_call m.old memory.now address }
 {
-    let s = machines::show(*m, memory, address);
-    *m = s.machine;
-    s.answer
+    let called = machine::show(*m, memory, GuestAddress(address));
+    *m = called.machine;
+    called.answer.packed()
 }
 
 pub fn malthobre_writer_new(w: &mut Writer) -> u64
-    ensures { new_left result w.new ≡ new_call }
+    ensures { left result w.new ≡ new_call }
 {
-    let s = archives::new();
-    *w = s.writer;
-    s.answer
+    *w = Writer::new();
+    Put::Nothing.packed()
 }
 
 pub fn malthobre_writer_add(w: &mut Writer, block: &mut [u8], made: &[u8; 16]) -> u64
     ensures { write_left result w.new block.new ≡ add_call w.old block.old made.now }
 {
-    let s = archives::add(*w, block, made);
-    *w = s.writer;
-    s.answer
+    let written = w.add(block, decode_record(*made));
+    *w = written.writer;
+    written.answer.packed()
 }
 
 pub fn malthobre_writer_close(w: &mut Writer, block: &mut [u8]) -> u64
     ensures { write_left result w.new block.new ≡ close_call w.old block.old }
 {
-    let s = archives::close(*w, block);
-    *w = s.writer;
-    s.answer
+    let written = w.close(block);
+    *w = written.writer;
+    written.answer.packed()
 }
 
 pub fn malthobre_block_check(block: &[u8], expected: u32, short: bool) -> u64
     ensures { result ≡ check_call block.now expected short }
 {
-    packed::checked(archive::check_block(block, expected, short))
+    archive::check_block(block, expected, short).packed()
 }
 
 pub fn malthobre_block_record(
@@ -102,23 +105,23 @@ pub fn malthobre_block_record(
     place: usize,
     made: &mut [u8; 16],
 ) -> u64
-    ensures { read_left result made.new ≡ record_call block.now expected short place }
+    ensures { left result made.new ≡ record_call block.now expected short place }
 {
     let found = archive::record_at(block, expected, short, place);
-    *made = packed::read_bytes(found);
-    packed::read(found)
+    *made = read_bytes(&found);
+    found.packed()
 }
 
 pub fn malthobre_archive_check(bytes: &[u8]) -> u64
     ensures { result ≡ whole_call bytes.now }
 {
-    packed::whole(archive::check_archive(bytes))
+    archive::check_archive(bytes).packed()
 }
 
 pub fn malthobre_archive_record(bytes: &[u8], number: u32, made: &mut [u8; 16]) -> u64
-    ensures { read_left result made.new ≡ sought_call bytes.now number }
+    ensures { left result made.new ≡ sought_call bytes.now number }
 {
     let found = archive::record_of_number(bytes, number);
-    *made = packed::sought_bytes(found);
-    packed::sought(found)
+    *made = read_bytes(&found);
+    found.packed()
 }

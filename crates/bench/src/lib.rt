@@ -1,9 +1,7 @@
 #![tactic(auto)]
 // The library for a bench in C, C++ or Rust: document 01's calls on one machine and one writer, each
 // where it stands. bench/malthobre.h declares what is exported.
-mod archives;
 mod exports;
-mod machines;
 mod packed;
 
 pub use exports::{

@@ -1,29 +1,10 @@
 // What crosses to C: an answer as one number, a record as its 16 bytes, an operation as its number.
-ghost use Rattle.std.specs.Prelude.{◌≡◌, ◌%◌};
-ghost use Rattle.bench.specs.Packed.{done, refused_at, packed, packed_wrote, packed_checked, packed_read, packed_whole, packed_sought, no_record, handed_bytes, read_bytes, sought_bytes, asked_of, asking_for, packed_if};
+ghost use Rattle.std.specs.Prelude.{◌≡◌, ◌%◌, ℕ};
+ghost use Rattle.rules.specs.Refusals.{refusal_number};
+ghost use Rattle.bench.specs.Packed.{done, refused_at, packed_by, packed_answer, packed_put, packed_good, packed_found, packed_count, packed_refusal, handed_bytes, read_bytes, asked_of};
 
-use archive::{Checked, Read, Sought, Whole, Wrote, encode_record};
-use machine::{Answer, GuestAddress, Handed, Operation};
-
-// What an operation's number asks for.
-#[derive(Clone, Copy)]
-pub enum Asked {
-    Known(Operation),
-    Unknown,
-}
-
-// .. as what is given to the machine, whether the number is known or not.
-#[derive(Clone, Copy)]
-pub struct Asking {
-    pub known: bool,
-    pub operation: Operation,
-}
-
-fn wide(x: u32) -> u64
-    ensures { result ≡ x }
-{
-    x as u64
-}
+use archive::{ArchiveRefusal, Numbered, Put, encode_record};
+use machine::{Answer, GuestAddress, Operation, Record, Refusal};
 
 // A length or an index, in 32 bits.
 fn low(x: usize) -> u32
@@ -32,163 +13,146 @@ fn low(x: usize) -> u32
     (x % 4294967296) as u32
 }
 
+// The words are those of bench/malthobre.h.
 fn done(word: u8, value: u32) -> u64
     ensures { result ≡ done word value }
 {
-    256 * (word as u64) + 4294967296 * wide(value)
+    256 * u64::from(word) + 4294967296 * u64::from(value)
 }
 
 fn refused_at(number: u32, index: usize) -> u64
     ensures { result ≡ refused_at number index }
 {
-    wide(number) + 4294967296 * wide(low(index))
+    u64::from(number) + 4294967296 * u64::from(low(index))
 }
 
-pub(crate) fn answer(a: Answer) -> u64
-    ensures { result ≡ packed a }
-{
-    match a {
-        Answer::Refused(n) => wide(n),
-        Answer::Ready => done(1, 0),
-        Answer::Taken => done(2, 0),
-        Answer::Moved => done(3, 0),
-        Answer::Waits => done(4, 0),
-        Answer::Load(v) => done(5, v),
-        Answer::Ll(v) => done(6, v),
-        Answer::Store => done(7, 0),
-        Answer::Sc(v) => done(8, v),
-        Answer::Poked => done(9, 0),
-        Answer::Word(v) => done(10, v),
+// What a call answers or refuses with, as one number.
+pub(crate) trait Packed {
+    ghost packs: { Self → ℕ };
+
+    fn packed(self) -> u64
+        ensures { result ≡ packs self };
+}
+
+impl<T: Packed, E: Packed> Packed for Result<T, E> {
+    ghost packs = { packed_by T.packs E.packs };
+
+    fn packed(self) -> u64 {
+        match self {
+            Ok(answer) => answer.packed(),
+            Err(refusal) => refusal.packed(),
+        }
     }
 }
 
-pub(crate) fn wrote(a: Wrote) -> u64
-    ensures { result ≡ packed_wrote a }
-{
-    match a {
-        Wrote::Refused(n) => wide(n),
-        Wrote::Nothing => done(11, 0),
-        Wrote::Block => done(12, 0),
+impl Packed for Refusal {
+    ghost packs = { refusal_number };
+
+    fn packed(self) -> u64 {
+        u64::from(self.number())
     }
 }
 
-pub(crate) fn checked(a: Checked) -> u64
-    ensures { result ≡ packed_checked a }
-{
-    match a {
-        Checked::Refused(n) => wide(n),
-        Checked::Good => done(13, 0),
+impl Packed for ArchiveRefusal {
+    ghost packs = { packed_refusal };
+
+    fn packed(self) -> u64 {
+        match self {
+            ArchiveRefusal::Length => Refusal::BlockLength.packed(),
+            ArchiveRefusal::Block { index, refusal } => refused_at(refusal.number(), index),
+        }
     }
 }
 
-pub(crate) fn read(a: Read) -> u64
-    ensures { result ≡ packed_read a }
-{
-    match a {
-        Read::Refused(n) => wide(n),
-        Read::Nothing => done(14, 0),
-        Read::One(_, _) => done(15, 0),
+impl Packed for Answer {
+    ghost packs = { packed_answer };
+
+    fn packed(self) -> u64 {
+        match self {
+            Answer::Ready => done(1, 0),
+            Answer::Taken => done(2, 0),
+            Answer::Moved => done(3, 0),
+            Answer::Waits => done(4, 0),
+            Answer::Load(v) => done(5, v),
+            Answer::Ll(v) => done(6, v),
+            Answer::Store => done(7, 0),
+            Answer::Sc(v) => done(8, v),
+            Answer::Poked => done(9, 0),
+            Answer::Word(v) => done(10, v),
+        }
     }
 }
 
-pub(crate) fn whole(a: Whole) -> u64
-    ensures { result ≡ packed_whole a }
-{
-    match a {
-        Whole::Refused(n) => wide(n),
-        Whole::RefusedAt(n, block) => refused_at(n, block),
-        Whole::Holds(records) => done(16, low(records)),
+impl Packed for Put {
+    ghost packs = { packed_put };
+
+    fn packed(self) -> u64 {
+        match self {
+            Put::Nothing => done(11, 0),
+            Put::Block => done(12, 0),
+        }
     }
 }
 
-pub(crate) fn sought(a: Sought) -> u64
-    ensures { result ≡ packed_sought a }
-{
-    match a {
-        Sought::Refused(n) => wide(n),
-        Sought::RefusedAt(n, block) => refused_at(n, block),
-        Sought::Nothing => done(14, 0),
-        Sought::One(_, _) => done(15, 0),
+// A block is good.
+impl Packed for () {
+    ghost packs = { packed_good };
+
+    fn packed(self) -> u64 {
+        done(13, 0)
     }
 }
 
-fn no_record() -> [u8; 16]
-    ensures { result ≡ no_record }
-{
-    [0; 16]
+// A record that is found goes out by its bytes.
+impl Packed for Option<Numbered> {
+    ghost packs = { packed_found };
+
+    fn packed(self) -> u64 {
+        match self {
+            None => done(14, 0),
+            Some(_) => done(15, 0),
+        }
+    }
 }
 
-pub(crate) fn handed_bytes(made: Handed) -> [u8; 16]
+// How many records an archive holds.
+impl Packed for usize {
+    ghost packs = { packed_count };
+
+    fn packed(self) -> u64 {
+        done(16, low(self))
+    }
+}
+
+pub(crate) fn handed_bytes(made: Option<Record>) -> [u8; 16]
     ensures { result ≡ handed_bytes made }
 {
     match made {
-        Handed::Nothing => no_record(),
-        Handed::One(r) => encode_record(0, r),
+        None => [0; 16],
+        Some(r) => encode_record(0, r),
     }
 }
 
-pub(crate) fn read_bytes(a: Read) -> [u8; 16]
-    ensures { result ≡ read_bytes a }
+pub(crate) fn read_bytes<E>(answer: &Result<Option<Numbered>, E>) -> [u8; 16]
+    ensures { result ≡ read_bytes answer.now }
 {
-    match a {
-        Read::Refused(_) => no_record(),
-        Read::Nothing => no_record(),
-        Read::One(number, r) => encode_record(number, r),
+    match answer {
+        Ok(Some(found)) => encode_record(found.number, found.record),
+        Ok(None) | Err(_) => [0; 16],
     }
 }
 
-pub(crate) fn sought_bytes(a: Sought) -> [u8; 16]
-    ensures { result ≡ sought_bytes a }
-{
-    match a {
-        Sought::Refused(_) => no_record(),
-        Sought::RefusedAt(_, _) => no_record(),
-        Sought::Nothing => no_record(),
-        Sought::One(number, r) => encode_record(number, r),
-    }
-}
-
+// The operation that a number asks for.
 #[tactic(auto, unfolding(crate::specs::Packed::asked_of))]
-fn asked_for(code: u8, a: u32, value: u32) -> Asked
+pub(crate) fn asked_of(code: u8, a: u32, value: u32) -> Option<Operation>
     ensures { result ≡ asked_of code a value }
 {
     let address = GuestAddress(a);
-    if code == 1 {
-        return Asked::Known(Operation::Load(address));
+    match code {
+        1 => Some(Operation::Load(address)),
+        2 => Some(Operation::Ll(address)),
+        3 => Some(Operation::Store(address, value)),
+        4 => Some(Operation::Sc(address, value)),
+        _ => None,
     }
-    if code == 2 {
-        return Asked::Known(Operation::Ll(address));
-    }
-    if code == 3 {
-        return Asked::Known(Operation::Store(address, value));
-    }
-    if code == 4 {
-        return Asked::Known(Operation::Sc(address, value));
-    }
-    Asked::Unknown
-}
-
-pub(crate) fn asking_for(code: u8, a: u32, value: u32) -> Asking
-    ensures { result ≡ asking_for (asked_of code a value) }
-{
-    match asked_for(code, a, value) {
-        // 1 is no multiple of 4: no machine has it, so the give is refused and changes nothing.
-        Asked::Unknown => Asking {
-            known: false,
-            operation: Operation::Load(GuestAddress(1)),
-        },
-        Asked::Known(operation) => Asking {
-            known: true,
-            operation,
-        },
-    }
-}
-
-pub(crate) fn given(known: bool, a: Answer) -> u64
-    ensures { result ≡ packed_if known a }
-{
-    if known {
-        return answer(a);
-    }
-    9
 }

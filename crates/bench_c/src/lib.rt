@@ -1,8 +1,9 @@
 #![tactic(auto)]
 // What is exported to C, as bench/malthobre.h declares it: each export is the call of `bench` of its name.
 ghost use Rattle.std.specs.Prelude.{◌≡◌};
-ghost use Rattle.bench.specs.Machines.{left, start_left, step_left, poke_left, start_call, give_call, step_call, poke_call, show_call};
-ghost use Rattle.bench.specs.Archives.{new_left, write_left, read_left, new_call, add_call, close_call, check_call, record_call, whole_call, sought_call};
+ghost use Rattle.bench.specs.Left.{left};
+ghost use Rattle.bench.specs.Machines.{start_left, step_left, poke_left, start_call, give_call, step_call, poke_call, show_call};
+ghost use Rattle.bench.specs.Archives.{write_left, new_call, add_call, close_call, check_call, record_call, whole_call, sought_call};
 
 use archive::Writer;
 use machine::Machine;
@@ -69,7 +70,7 @@ pub extern "C" fn malthobre_show(m: &mut Machine, memory: &[u8], address: u32) -
 
 #[unsafe(no_mangle)]
 pub extern "C" fn malthobre_writer_new(w: &mut Writer) -> u64
-    ensures { new_left result w.new ≡ new_call }
+    ensures { left result w.new ≡ new_call }
 {
     bench::malthobre_writer_new(w)
 }
@@ -103,7 +104,7 @@ pub extern "C" fn malthobre_block_record(
     place: usize,
     made: &mut [u8; 16],
 ) -> u64
-    ensures { read_left result made.new ≡ record_call block.now expected short place }
+    ensures { left result made.new ≡ record_call block.now expected short place }
 {
     bench::malthobre_block_record(block, expected, short, place, made)
 }
@@ -117,7 +118,7 @@ pub extern "C" fn malthobre_archive_check(bytes: &[u8]) -> u64
 
 #[unsafe(no_mangle)]
 pub extern "C" fn malthobre_archive_record(bytes: &[u8], number: u32, made: &mut [u8; 16]) -> u64
-    ensures { read_left result made.new ≡ sought_call bytes.now number }
+    ensures { left result made.new ≡ sought_call bytes.now number }
 {
     bench::malthobre_archive_record(bytes, number, made)
 }

@@ -31,10 +31,11 @@ use Rattle.rules.specs.declared.state.Machine.{Machine}
 use Rattle.rules.specs.declared.state.Called.{Called}
 use Rattle.rules.proofs.Lawful.{range_laws, refusal_laws}
 use Rattle.machine.specs.Whole.{sizes_of}
+use Rattle.machine.specs.declared.place.Stepped.{Stepped}
 use Rattle.machine.specs.Known.{picked, give_core_of, step_core_of, poke_word_of, show_word_of, granted_at, called_by, poked_at, shown_at, AsTheRules}
 use Rattle.machine.proofs.Knowing.{known_calls}
 use Rattle.commands.specs.Effect.{After, after, beside, running, refused_ran, ran_of, started_ran, new_fits, after_start, new_of, usual_entries, once_begun, give_line, after_step, step_line, after_poke, poke_line, show_line, run_command}
-use Rattle.commands.specs.Turns.{set_up, one_core, did, if_done, DidOutcome, did_outcome, give_turn, step_turn, poke_turn, show_turn, act_on, ran_by, put_by, Sound, LinesAreDone}
+use Rattle.commands.specs.Turns.{set_up, one_core, did, if_done, DidOutcome, did_outcome, give_turn, step_turn, poke_turn, show_turn, act_on, ran_by, put_by, on_one_core, turn_of, ran_in, run_in_place, Sound, Done, LinesAreDone}
 use Rattle.commands.specs.declared.grammar.Command.{Command}
 use Rattle.commands.specs.declared.grammar.Command.TheVariants.{New, Give, Step, Poke, Show}
 use Rattle.commands.specs.declared.effect.Session.{Session}
@@ -191,3 +192,23 @@ lines_are_done session memory owners holders command sound =
       is_set_up = setting_up session memory owners holders command;
       stays_sound = stays_sound session sound memory owners holders command;
     }
+
+-- where the machine stands
+pub in_place_is : (session : Session) (memory owners holders : List ℕ) (command : Option Command) → Sound session → run_in_place session memory owners holders command ≡ run_command session memory owners holders command
+unfolding run_in_place
+in_place_is session memory owners holders command sound = go session.machine refl (one_core command) refl
+  where
+    done : Done session memory owners holders command
+    done = lines_are_done session memory owners holders command sound
+
+    go : (o : Option Machine) → session.machine ≡ o → (one : Option ℕ) → one_core command ≡ one
+        → on_one_core o one (λ m core. turn_of m memory owners holders core command) (set_up session memory owners holders command) ≡ run_command session memory owners holders command
+    go (Some m) e (Some core) h = done.on_its_core m core e h
+    go (Some m) e None h = done.is_set_up (inr h)
+    go None e one h = done.is_set_up (inl e)
+
+pub in_place_sound : (session next : Session) (memory owners holders : List ℕ) (command : Option Command) (stepped : Stepped) (m' o' h' : List ℕ)
+    → after (ran_in stepped next) m' o' h' ≡ run_in_place session memory owners holders command → Sound session → Sound next
+in_place_sound session next memory owners holders command stepped m' o' h' e sound =
+    let left : after (ran_in stepped next) m' o' h' ≡ run_command session memory owners holders command = e ∙ in_place_is session memory owners holders command sound in
+    subst Sound (sym (ap (λ (a : After). a.ran.session) left)) (lines_are_done session memory owners holders command sound).stays_sound

@@ -15,6 +15,7 @@ use Rattle.machine.specs.Whole.{sizes_of}
 use Rattle.machine.specs.Acted.{Acted}
 use Rattle.machine.specs.Known.{picked, give_core_of, step_core_of, PokedOutcome, poke_word_of, show_word_of}
 use Rattle.machine.specs.declared.sizes.Sizes.{Sizes}
+use Rattle.machine.specs.declared.place.Stepped.{Stepped}
 use Rattle.commands.specs.Effect.{After, after, running, refused_ran, new_of, usual_entries, beside, run_command}
 use Rattle.commands.specs.declared.grammar.Command.{Command}
 use Rattle.commands.specs.declared.grammar.Command.TheVariants.{New, Give, Step, Poke, Show}
@@ -104,6 +105,23 @@ ran_by m core (Err refusal) = refused_ran refusal (running m)
 
 abbrev pub put_by : Machine → ℕ → DidOutcome → After
 put_by m core d = after (ran_by m core d.did) d.memory d.owners d.holders
+
+-- where a machine stands and the command changes one core of it, that core alone; and otherwise it is set up
+abbrev pub on_one_core : Option Machine → Option ℕ → (Machine → ℕ → After) → After → After
+on_one_core (Some m) (Some core) on_core set_up = on_core m core
+on_one_core (Some m) None on_core set_up = set_up
+on_one_core None core on_core set_up = set_up
+
+abbrev pub turn_of : Machine → List ℕ → List ℕ → List ℕ → ℕ → Option Command → After
+turn_of m memory owners holders core command = put_by m core (act_on (sizes_of m) (picked m core) memory owners holders command)
+
+unfoldable pub run_in_place : Session → List ℕ → List ℕ → List ℕ → Option Command → After
+run_in_place session memory owners holders command =
+    on_one_core session.machine (one_core command) (λ m core. turn_of m memory owners holders core command) (set_up session memory owners holders command)
+
+-- what it hands back, with the session that it leaves
+abbrev pub ran_in : Stepped → Session → Ran
+ran_in stepped session = record { answer = stepped.answer; made = stepped.made; session = session }
 
 -- a session whose machine, if one stands, is in its ranges
 abbrev pub Sound : Session → Type 0

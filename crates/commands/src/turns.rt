@@ -9,10 +9,16 @@ ghost use Rattle.commands.specs.Turns.{
   poke_turn,
   show_turn,
   act_on,
+  turn_of,
+  ran_in,
+  run_in_place,
+  Sound,
 };
+ghost use Rattle.commands.specs.Effect.{after, running, run_command};
 
+use crate::effect::{Session, set_up};
 use crate::grammar::Command;
-use machine::{Answer, Core, GuestAddress, Operation, Record, Refusal, Sizes};
+use machine::{Answer, Core, GuestAddress, Machine, Operation, Record, Refusal, Sizes, Stepped};
 
 // What a command answers that is not refused, the record that it makes, if it makes one, and what becomes of the core.
 #[derive(Clone, Copy)]
@@ -128,5 +134,60 @@ pub fn act(
         Some(Command::Step(core)) => step_turn(sizes, c, memory, owners, holders, core),
         Some(Command::Poke(address, value)) => poke_turn(sizes.bytes, c, memory, address, value),
         Some(Command::Show(address)) => show_turn(sizes.bytes, c, memory, address),
+    }
+}
+
+// A command on a machine that stands: the one core that it may change is copied out, and put back.
+fn turn(
+    m: &mut Machine,
+    memory: &mut [u8],
+    owners: &mut [u8],
+    holders: &mut [u8],
+    core: usize,
+    command: Option<Command>,
+) -> Stepped
+    ensures { after (ran_in result (running m.new)) memory.new owners.new holders.new ≡ turn_of m.old memory.old owners.old holders.old core command }
+{
+    let at = core % 8;
+    match act(Sizes::of(m), m.cores[at], memory, owners, holders, command) {
+        Ok(did) => {
+            m.cores[at] = did.core;
+            Stepped {
+                answer: Ok(did.answer),
+                made: did.made,
+            }
+        }
+        Err(refusal) => Stepped {
+            answer: Err(refusal),
+            made: None,
+        },
+    }
+}
+
+impl Session {
+    // What a line's command does, and what it leaves: the machine is not copied, but where a `new` makes one. A machine
+    // that stands in its ranges stays so, and nothing looks at it.
+    pub fn run(
+        &mut self,
+        memory: &mut [u8],
+        owners: &mut [u8],
+        holders: &mut [u8],
+        command: Option<Command>,
+    ) -> Stepped
+        ensures outcome { after (ran_in result self.new) memory.new owners.new holders.new ≡ run_in_place self.old memory.old owners.old holders.old command }
+        ensures as_the_rules { Sound self.old → after (ran_in result self.new) memory.new owners.new holders.new ≡ run_command self.old memory.old owners.old holders.old command }
+        ensures sound { Sound self.old → Sound self.new }
+    {
+        match (one_core_of(command), &mut self.machine) {
+            (Some(core), Some(m)) => turn(m, memory, owners, holders, core, command),
+            _ => {
+                let ran = set_up(*self, memory, owners, holders, command);
+                *self = ran.session;
+                Stepped {
+                    answer: ran.answer,
+                    made: ran.made,
+                }
+            }
+        }
     }
 }

@@ -1,12 +1,14 @@
 -- What the code looks at in each core, in one pass, is what the ranges ask.
 -- Assumes nothing.
-use Rattle.std.proofs.Common.{◌≡◌, ℕ, ◌/◌, ◌%◌, ◌<◌, ◌≤◌, Bool, true, false, not, ◌&&◌, ◌||◌, eqb, ltb, leb, sym, refl, ◌∙◌, arith, ltb-false, ltb-true, le-ltb, lt-ltb, ne_eqb, eqb-true, le-leb, leb-false, leb-true, if◌then◌else◌}
+use Rattle.std.proofs.Common.{◌≡◌, ℕ, ◌*◌, ◌/◌, ◌%◌, ◌^◌, ◌<◌, ◌≤◌, Bool, true, false, not, ◌&&◌, ◌||◌, eqb, ltb, leb, sym, refl, ◌∙◌, arith, ltb-false, ltb-true, le-ltb, lt-ltb, ne_eqb, eqb-true, leb-false, leb-true, if◌then◌else◌}
 use mathlib.Core.Bool.{false≢true, and-true}
 use borrow.Author.Tests.{eqb-false, lt-leb}
+use Rattle.std.specs.Int.{w32, rotate_right}
+use Rattle.std.proofs.lemmas.Nat.{or_comm, or_shifted}
 use Rattle.rules.specs.Basics.{all_below}
 use Rattle.rules.specs.Kinds.{is_ll, is_store, is_sc}
 use Rattle.rules.specs.Ranges.{sizes_fit, uses_value, uses_read, uses_passed, in_use_or0, link_fields, operation_occurs, step_occurs, operation_fits, inside, place_fits, core_fits, core_at, in_ranges}
-use Rattle.machine.specs.Looked.{stage_of, can_be_at, spare, spare_are0, word_at, words_of, words_for, room_of, looks_right_at, core_looks_right, fits_at}
+use Rattle.machine.specs.Looked.{stage_of, can_be_at, spare, spare_are0, word_at, words_for, room_of, looks_right_at, core_looks_right, fits_at}
 use Rattle.rules.specs.declared.cores.Core.{Core}
 use Rattle.rules.specs.declared.state.Machine.{Machine}
 use Rattle.rules.proofs.Bools.{and₂, and₃, and₄, same, and_false}
@@ -107,6 +109,12 @@ word_nowhere a = go (eqb a 0) refl
     go true p = let m = eqb-true a 0 p in lt-ltb (word_at a) 1 (omega arith)
     go false p = let m = eqb-false a 0 p in le-ltb (word_at a) 1 (omega arith)
 
+-- an address rotated by two bits is its word's number, with its two lowest bits above it
+pub rotated : (n : ℕ) → n < 2 ^ 32 → rotate_right w32 n 2 ≡ word_at n
+rotated n l =
+    let high : n * 1073741824 % 4294967296 ≡ n % 4 * 2 ^ 30 = omega arith in
+    or_comm (n / 4) (n * 1073741824 % 4294967296) ∙ rw high (or_shifted (n % 4) 30 (n / 4) (omega arith) ∙ omega arith)
+
 none_below_0 : (n : ℕ) → ltb n 0 ≡ false
 none_below_0 n = le-ltb n 0 (omega arith)
 
@@ -127,8 +135,8 @@ module _ (count bytes i : ℕ) (h : bytes ≤ 65536) (e : bytes % 4 ≡ 0) (a k 
   addresses_look : (busy linked : Bool) → (ltb (word_at a) (room_of busy (words_for count bytes i)) && ltb (word_at k) (room_of linked (words_for count bytes i))) ≡ (address_fits busy a && address_fits linked k) && (ltb i count || not (busy || linked))
   addresses_look busy linked = go (ltb i count) busy linked
     where
-      go : (t busy linked : Bool) → (ltb (word_at a) (room_of busy (if t then words_of bytes else 0)) && ltb (word_at k) (room_of linked (if t then words_of bytes else 0))) ≡ (address_fits busy a && address_fits linked k) && (t || not (busy || linked))
-      go true busy linked = rw (le-leb bytes 65536 h, one_looks busy a, one_looks linked k) (sym (and-true (address_fits busy a && address_fits linked k)))
+      go : (t busy linked : Bool) → (ltb (word_at a) (room_of busy (if t then bytes / 4 else 0)) && ltb (word_at k) (room_of linked (if t then bytes / 4 else 0))) ≡ (address_fits busy a && address_fits linked k) && (t || not (busy || linked))
+      go true busy linked = rw (one_looks busy a, one_looks linked k) (sym (and-true (address_fits busy a && address_fits linked k)))
       go false true linked = rw (none_below_0 (word_at a)) (sym (and_false (address_fits true a && address_fits linked k)))
       go false false true = rw (none_below_0 (word_at k)) (and_false (ltb (word_at a) 1) ∙ sym (and_false (address_fits false a && address_fits true k)))
       go false false false = rw (word_nowhere a, word_nowhere k) (both_idle (eqb a 0) (eqb k 0))
@@ -207,6 +215,9 @@ alike m h i = let s = sizes m h in core_looks m.count m.bytes i (core_at m i) s.
 pub no_sizes : (m : Machine) → sizes_fit m ≡ false → in_ranges m ≡ false
 unfolding in_ranges
 no_sizes m h = rw h
+
+pub few_bytes : (m : Machine) → sizes_fit m ≡ true → m.bytes ≤ 65536
+few_bytes m h = (sizes m h).most_bytes
 
 pub a_core_out : (m : Machine) (i : ℕ) → sizes_fit m ≡ true → i < 8 → fits_at m i ≡ false → in_ranges m ≡ false
 a_core_out m i h below out = go (in_ranges m) refl

@@ -40,11 +40,8 @@ abbrev pub word_at : ℕ → ℕ
 word_at a = a / 4 + a % 4 * 1073741824
 
 -- the words that an address in use can be at: in a machine's memory, and at or above the count none
-abbrev pub words_of : ℕ → ℕ
-words_of bytes = if nat_le bytes 65536 then bytes / 4 else 0
-
 abbrev pub words_for : ℕ → ℕ → ℕ → ℕ
-words_for count bytes i = if nat_lt i count then words_of bytes else 0
+words_for count bytes i = if nat_lt i count then bytes / 4 else 0
 
 -- the words that an address can be at: one that is not in use is 0
 abbrev pub room_of : Bool → ℕ → ℕ

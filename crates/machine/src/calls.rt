@@ -11,7 +11,7 @@ use rules::{Answer, Called, GuestAddress, Machine, Refusal};
 fn start_refusal(count: usize, memory: usize, owners: usize, holders: usize) -> Result<(), Refusal>
     ensures { result ≡ start_refusal count memory owners holders }
 {
-    if !(ranges::bytes_fit(memory) & ranges::tables_fit(owners, holders)) {
+    if !ranges::bytes_fit(memory) || !ranges::tables_fit(owners, holders) {
         return Err(Refusal::LentLengths);
     }
     if !ranges::cores_fit(count) {

@@ -48,7 +48,7 @@ fn step_refusal(
     ensures { result ≡ known_step_refusal sizes c memory owners.now holders.now core }
 {
     let entries = sizes.entries;
-    if !((memory == sizes.bytes) & (owners.len() == entries) & (holders.len() == entries)) {
+    if memory != sizes.bytes || owners.len() != entries || holders.len() != entries {
         return Err(Refusal::LentLengths);
     }
     if sizes.count <= core {
@@ -57,7 +57,7 @@ fn step_refusal(
     if !c.busy {
         return Err(Refusal::Idle);
     }
-    if !((core < 8) & (e < entries) & (c.address.place() + 4 <= sizes.bytes)) {
+    if 8 <= core || entries <= e || sizes.bytes < c.address.place() + 4 {
         return Err(Refusal::OutOfRange);
     }
     if ranges::damaged(sizes.count, core as u8, c, owners[e], holders[e]) {

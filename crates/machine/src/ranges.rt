@@ -1,8 +1,8 @@
 // The ranges of sizes and of the state, and the damage of a table's entry.
-ghost use Rattle.std.specs.Prelude.{◌≡◌, ◌%◌, ◌<◌, ◌&&◌, if◌then◌else◌};
+ghost use Rattle.std.specs.Prelude.{◌≡◌, ◌%◌, ◌<◌, ◌≤◌, ◌&&◌, if◌then◌else◌};
 ghost use Rattle.rules.specs.Sizes.{cores_fit, bytes_fit, entries_fit, tables_fit};
 ghost use Rattle.rules.specs.Ranges.{sizes_fit, in_ranges, damaged};
-ghost use Rattle.machine.specs.Looked.{can_be_at, spare_are0, word_at, words_of, words_for, room_of, core_looks_right, fits_at};
+ghost use Rattle.machine.specs.Looked.{can_be_at, spare_are0, word_at, words_for, room_of, core_looks_right, fits_at};
 
 use rules::{Core, Machine};
 
@@ -57,9 +57,13 @@ fn can_be_at(c: Core, stage: u64) -> bool
     requires { stage < 64 }
     ensures { result ≡ can_be_at c.busy c.passed stage }
 {
-    let busy = choose(c.passed, PASSED, BUSY);
-    let at_rest = choose(c.passed, 0, IDLE);
-    (choose(c.busy, busy, at_rest) >> stage) % 2 == 1
+    let stages = match (c.busy, c.passed) {
+        (true, true) => PASSED,
+        (true, false) => BUSY,
+        (false, true) => 0,
+        (false, false) => IDLE,
+    };
+    (stages >> stage) % 2 == 1
 }
 
 // A field that is not in use must be 0.
@@ -73,28 +77,19 @@ fn spare_are_0(c: Core, stage: u64) -> bool
 }
 
 // The address with its two lowest bits moved to the top: one comparison then tells that it is aligned and inside.
+#[tactic(auto, using(crate::proofs::Looking::rotated))]
 fn word_at(address: u32) -> u32
     ensures { result ≡ word_at address }
 {
-    address / 4 + address % 4 * 1073741824
+    address.rotate_right(2)
 }
 
-// The words of a memory. One that is too large is refused before this counts.
-fn words_of(bytes: usize) -> u32
-    ensures { result ≡ words_of bytes }
-{
-    if bytes <= 65536 {
-        (bytes / 4) as u32
-    } else {
-        0
-    }
-}
-
-// A core at or above the count has no word to be at, and so cannot be busy or linked.
+// The words that an address in use can be at. A core at or above the count has none, and so cannot be busy or linked.
 fn words_for(count: usize, bytes: usize, at: usize) -> u32
+    requires { bytes ≤ 65536 }
     ensures { result ≡ words_for count bytes at }
 {
-    if at < count { words_of(bytes) } else { 0 }
+    if at < count { (bytes / 4) as u32 } else { 0 }
 }
 
 // The words that an address can be at: one that is not in use is 0.
@@ -108,31 +103,19 @@ fn room_of(used: bool, words: u32) -> u32
 fn core_looks_right(words: u32, c: Core) -> bool
     ensures { result ≡ core_looks_right words c }
 {
-    let stage = 8 * (c.operation as u64) + (c.next as u64);
-    if 7 < c.next {
-        return false;
-    }
-    if 63 < stage {
-        return false;
-    }
-    if !can_be_at(c, stage) {
-        return false;
-    }
-    if !spare_are_0(c, stage) {
-        return false;
-    }
-    if room_of(c.busy, words) <= word_at(c.address.0) {
-        return false;
-    }
-    if room_of(c.linked, words) <= word_at(c.link.0) {
-        return false;
-    }
-    true
+    let stage = 8 * u64::from(c.operation) + u64::from(c.next);
+    c.next <= 7
+        && stage <= 63
+        && can_be_at(c, stage)
+        && spare_are_0(c, stage)
+        && word_at(c.address.0) < room_of(c.busy, words)
+        && word_at(c.link.0) < room_of(c.linked, words)
 }
 
 #[tactic(auto, unfolding(crate::specs::Looked::fits_at))]
 fn fits_at(m: &Machine, i: usize) -> bool
-    requires { i < 8 }
+    requires one_of_eight { i < 8 }
+    requires few_bytes { m.now.bytes ≤ 65536 }
     ensures { result ≡ fits_at m.now i }
 {
     core_looks_right(words_for(m.count, m.bytes, i), m.cores[i])
@@ -141,7 +124,7 @@ fn fits_at(m: &Machine, i: usize) -> bool
 // Whether the state is in its ranges, looked at where it stands, core by core. It returns at the first test
 // that fails: with one test of all cores the compiler would gather fields of several cores, which costs
 // more than the tests.
-#[tactic(auto, using(crate::proofs::Looking::no_sizes, crate::proofs::Looking::a_core_out, crate::proofs::Looking::all_looked))]
+#[tactic(auto, using(crate::proofs::Looking::no_sizes, crate::proofs::Looking::few_bytes, crate::proofs::Looking::a_core_out, crate::proofs::Looking::all_looked))]
 pub(crate) fn in_ranges(m: &Machine) -> bool
     ensures { result ≡ in_ranges m.now }
 {
@@ -162,9 +145,9 @@ pub(crate) fn damaged(count: usize, me: u8, c: Core, owner: u8, holder: u8) -> b
     ensures { result ≡ damaged count me c owner holder }
 {
     let mark = me + 1;
-    let owner_beyond = count < (owner as usize);
-    let holder_beyond = count < (holder as usize);
-    let lost = (2 <= c.next) & !(holder == mark);
-    let early = (c.next == 1) & (holder == mark);
-    !(c.operation == 1) & (owner_beyond | holder_beyond | lost | early)
+    let owner_beyond = count < usize::from(owner);
+    let holder_beyond = count < usize::from(holder);
+    let lost = 2 <= c.next && holder != mark;
+    let early = c.next == 1 && holder == mark;
+    c.operation != 1 && (owner_beyond || holder_beyond || lost || early)
 }

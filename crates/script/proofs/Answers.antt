@@ -1,26 +1,26 @@
 -- One more line answered: what is left to answer gives the same in the end.
 -- Assumes nothing.
-use mathlib.Core.Path.{◌≡◌, refl, ap, sym, ◌∙◌}
-use mathlib.Core.Bool.{Bool, true, false, ◌&&◌, ◌||◌}
+use mathlib.Core.Path.{◌≡◌, refl, ap, sym, ◌∙◌, subst}
+use mathlib.Core.Bool.{Bool, true, false, ◌&&◌, ◌||◌, true≢false}
 use mathlib.Core.List.{List, [], ◌∷◌, ◌++◌, append_assoc}
-use Prim.Native.Nat.{ℕ, ◌+◌, ◌-◌, ◌≤◌, ◌<◌}
+use Prim.Native.Nat.{ℕ, ◌+◌, ◌-◌, ◌≤◌}
 use native.Mathlib.Omega.{arith}
-use lib.ListN.{length, take, drop, length-take, length-append}
-use lib.Seq.{take_at}
+use lib.ListN.{length, take, drop, length-take, length-append, length-drop}
+use lib.Seq.{take_at, drop-drop}
 use lib.Dec.{leb, ltb}
-use borrow.Author.Tests.{le-leb, leb-true, ltb-true}
-use Rattle.commands.specs.Effect.{After, after, run_command, run_line}
+use borrow.Author.Tests.{le-leb, leb-true}
+use Rattle.std.specs.Prelude.{Option, None, is_some}
+use Rattle.commands.specs.Effect.{After, run_command, run_line}
 use Rattle.commands.specs.Grammar.{command_of}
 use Rattle.commands.specs.declared.grammar.Command.{Command}
-use Rattle.commands.specs.Texts.{answer_line, answer_put, answer_end, line_room}
-use Rattle.commands.specs.declared.effect.Session.{Session}
-use Rattle.commands.specs.declared.effect.Ran.{Ran}
+use Rattle.commands.specs.Texts.{answer_line, answer_put, answer_end, line_room, line_put, line_end, line_number, counted_on, digits_of}
+use Rattle.commands.specs.declared.text.LineNumber.{LineNumber}
+use Rattle.commands.proofs.Numbered.{counts_on, line_put_lem, line_end_lem}
 use Rattle.script.specs.declared.answering.Event.{Event}
-use Rattle.script.specs.declared.answering.Event.TheVariants as event
 use Rattle.script.specs.Output.{Work, work, after_line, text_of, texts_of}
-use Rattle.script.specs.Lines.{first_line, handed, between, unfinished}
-use Rattle.script.specs.Answering.{answer_room, can_answer, last_number, seen_of, is_event, lines_in, stopped, answer_lines}
-use Rattle.script.proofs.Cutting.{next_line, next_left, line_ends}
+use Rattle.script.specs.Lines.{first_line, handed, unfinished}
+use Rattle.script.specs.Answering.{answer_room, can_answer, last_number, seen_of, lines_in, stopped, answer_lines}
+use Rattle.script.proofs.Cutting.{next_line, next_left}
 
 and_left : (a b : Bool) → a && b ≡ true → a ≡ true
 and_left true b e = refl
@@ -30,37 +30,18 @@ and_right : (a b : Bool) → a && b ≡ true → b ≡ true
 and_right true b e = e
 and_right false b e = absurd (let z : ◌≡◌ {A = Bool} false true = e in let y : ◌≡◌ {A = ℕ} 0 1 = cc in omega arith)
 
-pub can_room : (lent at answered : ℕ) → can_answer lent at answered ≡ true → leb (at + answer_room) lent ≡ true
+can_room : (lent at answered : ℕ) → can_answer lent at answered ≡ true → leb (at + answer_room) lent ≡ true
 can_room lent at answered e = and_left (leb (at + answer_room) lent) (ltb answered last_number) e
-
-pub can_count : (lent at answered : ℕ) → can_answer lent at answered ≡ true → answered < last_number
-can_count lent at answered e = ltb-true answered last_number (and_right (leb (at + answer_room) lent) (ltb answered last_number) e)
-
-pub both : (t : Bool) → t ≡ true → t ≡ false → ⊥
-both t p q = let z : ◌≡◌ {A = Bool} true false = sym p ∙ q in let y : ◌≡◌ {A = ℕ} 0 1 = cc in omega arith
-
-or_false : (a b : Bool) → a || b ≡ false → (a ≡ false) × (b ≡ false)
-or_false false b e = (refl, e)
-or_false true b e = absurd (both true refl e)
-
--- a stop after which nothing was done was for nothing
-pub idle : (busy goes emptied event good more : Bool) → busy ≡ (goes && (emptied || event)) → goes ≡ (good && more) → busy ≡ false → goes ≡ true
-    → ((emptied ≡ false) × (event ≡ false)) × (more ≡ true)
-idle busy goes emptied event good more b g off on =
-    (or_false emptied event (sym (ap (λ (t : Bool). t && (emptied || event)) on) ∙ sym b ∙ off), and_right good more (sym g ∙ on))
-
-pub can_answer_there : (lent at answered : ℕ) → at ≤ lent → answer_room ≤ lent - at → ltb answered last_number ≡ true → can_answer lent at answered ≡ true
-can_answer_there lent at answered h k e = rw (le-leb (at + answer_room) lent (omega arith), e)
 
 -- where nothing can be answered, the answering stops
 pub stops_full : (watch : Bool) (w : Work) (lines : List (List ℕ)) (out : List ℕ) (at : ℕ) → can_answer (length out) at w.answered ≡ false
-    → stopped w lines out at event.Nothing ≡ answer_lines watch w lines out at
+    → stopped w lines out at None ≡ answer_lines watch w lines out at
 unfolding answer_lines
 stops_full watch w [] out at e = refl
 stops_full watch w (line ∷ lines) out at e = rw e
 
 pub stops_empty : (watch : Bool) (w : Work) (lines : List (List ℕ)) (out : List ℕ) (at : ℕ) → lines ≡ []
-    → stopped w lines out at event.Nothing ≡ answer_lines watch w lines out at
+    → stopped w lines out at None ≡ answer_lines watch w lines out at
 unfolding answer_lines
 stops_empty watch w lines out at e = rw e
 
@@ -70,121 +51,160 @@ put_taken out text at h =
     take_at (take at out ++ text) (drop (at + length text) out) (at + length text) (length-append (take at out) text ∙ (rw length-take (omega arith)))
 
 -- a line is read, and its command is run
-as_line : (session : Session) (memory owners holders line : List ℕ) (did : After) (command : Command) → did ≡ run_command session memory owners holders command → command ≡ command_of line → did ≡ run_line session memory owners holders line
+as_line : (w : Work) (line : List ℕ) (a : After) (command : Option Command) → a ≡ run_command w.session w.memory w.owners w.holders command → command ≡ command_of line
+    → a ≡ run_line w.session w.memory w.owners w.holders line
 unfolding run_line
-as_line session memory owners holders line did command d e = d ∙ ap (run_command session memory owners holders) e
+as_line w line a command d e = d ∙ ap (run_command w.session w.memory w.owners w.holders) e
 
--- a line is answered: `ran` is what it left, and `out₁` up to `at₁` the output with its answer
-module _ (watch : Bool) (session : Session) (memory owners holders : List ℕ) (answered : ℕ) (line : List ℕ) (lines : List (List ℕ)) (out : List ℕ) (at : ℕ)
-    (ran : Ran) (memory₁ owners₁ holders₁ out₁ : List ℕ) (at₁ : ℕ)
-    (room : can_answer (length out) at answered ≡ true)
-    (did : after ran memory₁ owners₁ holders₁ ≡ run_line session memory owners holders line)
-    (put : out₁ ≡ answer_put (answered + 1) ran.answer out at) (ends : at₁ ≡ answer_end (answered + 1) ran.answer (length out) at) (fits : at₁ ≤ at + answer_room) where
-  next_work : after_line (work session memory owners holders answered) line ≡ work ran.session memory₁ owners₁ holders₁ (answered + 1)
+abbrev pub left_work : After → ℕ → Work
+left_work a answered = work a.ran.session a.memory a.owners a.holders answered
+
+-- a line is answered: `a` is what it left, and `out₁` up to `at₁` the output with its answer
+module _ (watch : Bool) (w : Work) (line : List ℕ) (lines : List (List ℕ)) (out : List ℕ) (at : ℕ) (a : After) (out₁ : List ℕ) (at₁ : ℕ)
+    (room : can_answer (length out) at w.answered ≡ true)
+    (did : a ≡ run_line w.session w.memory w.owners w.holders line)
+    (put : out₁ ≡ answer_put (w.answered + 1) a.ran.answer out at) (ends : at₁ ≡ answer_end (w.answered + 1) a.ran.answer (length out) at) (fits : at₁ ≤ at + answer_room) where
+  next_work : after_line w line ≡ left_work a (w.answered + 1)
   unfolding after_line
   next_work = rw (← did)
 
-  next_text : text_of (work session memory owners holders answered) line ≡ answer_line (answered + 1) ran.answer
+  next_text : text_of w line ≡ answer_line (w.answered + 1) a.ran.answer
   unfolding text_of
   next_text = rw (← did)
 
   -- the event goes unseen, or there is none
-  pub answers_on : is_event (seen_of watch ran.answer ran.made) ≡ false
-      → answer_lines watch (work session memory owners holders answered) (line ∷ lines) out at
-      ≡ answer_lines watch (work ran.session memory₁ owners₁ holders₁ (answered + 1)) lines out₁ at₁
+  answers_on : is_some (seen_of watch a.ran.answer a.ran.made) ≡ false
+      → answer_lines watch w (line ∷ lines) out at ≡ answer_lines watch (left_work a (w.answered + 1)) lines out₁ at₁
   unfolding answer_lines
   answers_on e = rw (room, ← did, e, put, ends, next_work)
 
-  pub answers_stop : is_event (seen_of watch ran.answer ran.made) ≡ true
-      → stopped (work ran.session memory₁ owners₁ holders₁ (answered + 1)) lines out₁ at₁ (seen_of watch ran.answer ran.made)
-      ≡ answer_lines watch (work session memory owners holders answered) (line ∷ lines) out at
+  answers_stop : is_some (seen_of watch a.ran.answer a.ran.made) ≡ true
+      → stopped (left_work a (w.answered + 1)) lines out₁ at₁ (seen_of watch a.ran.answer a.ran.made) ≡ answer_lines watch w (line ∷ lines) out at
   unfolding answer_lines
   answers_stop e = rw (room, ← did, e, put, ends, next_work)
 
-  pub texts_on : take at₁ out₁ ++ texts_of (work ran.session memory₁ owners₁ holders₁ (answered + 1)) lines
-      ≡ take at out ++ texts_of (work session memory owners holders answered) (line ∷ lines)
+  texts_on : take at₁ out₁ ++ texts_of (left_work a (w.answered + 1)) lines ≡ take at out ++ texts_of w (line ∷ lines)
   texts_on =
-      let low : at + answer_room ≤ length out = leb-true (at + answer_room) (length out) (can_room (length out) at answered room) in
+      let low : at + answer_room ≤ length out = leb-true (at + answer_room) (length out) (can_room (length out) at w.answered room) in
       let lr : leb (at + line_room) (length out) ≡ true = le-leb (at + line_room) (length out) (omega arith) in
-      let p : out₁ ≡ take at out ++ answer_line (answered + 1) ran.answer ++ drop (at + length (answer_line (answered + 1) ran.answer)) out = put ∙ rw lr in
-      let q : at₁ ≡ at + length (answer_line (answered + 1) ran.answer) = ends ∙ rw lr in
-      let h : at + length (answer_line (answered + 1) ran.answer) ≤ length out = omega arith in
-      let taken : take at₁ out₁ ≡ take at out ++ answer_line (answered + 1) ran.answer = rw (q, p) (put_taken out (answer_line (answered + 1) ran.answer) at h) in
+      let p : out₁ ≡ take at out ++ answer_line (w.answered + 1) a.ran.answer ++ drop (at + length (answer_line (w.answered + 1) a.ran.answer)) out = put ∙ rw lr in
+      let q : at₁ ≡ at + length (answer_line (w.answered + 1) a.ran.answer) = ends ∙ rw lr in
+      let h : at + length (answer_line (w.answered + 1) a.ran.answer) ≤ length out = omega arith in
+      let taken : take at₁ out₁ ≡ take at out ++ answer_line (w.answered + 1) a.ran.answer = rw (q, p) (put_taken out (answer_line (w.answered + 1) a.ran.answer) at h) in
       rw (taken, next_text, next_work, append_assoc)
 
--- Where the answering stands: what is left from here gives what the whole gives.
-pub record Stands (watch : Bool) (start : Work) (input : List ℕ) (from end : ℕ) (first : List ℕ) (at : ℕ) (w : Work) (next : ℕ) (out : List ℕ) (to : ℕ) : Type 0 where
-  pub outcome : answer_lines watch w (lines_in (between next end input)) out to ≡ answer_lines watch start (lines_in (between from end input)) first at
-  pub text : take to out ++ texts_of w (lines_in (between next end input)) ≡ take at first ++ texts_of start (lines_in (between from end input))
-  pub left : unfinished (between next end input) ≡ unfinished (between from end input)
-  pub within : next ≤ end
+-- Where the answering stands: what is left from here gives what the whole gives, and the line's number has its digits.
+pub record Stands (watch : Bool) (start : Work) (input first : List ℕ) (at : ℕ) (w : Work) (next : ℕ) (out : List ℕ) (to : ℕ) (line : LineNumber) : Type 0 where
+  pub outcome : answer_lines watch w (lines_in (drop next input)) out to ≡ answer_lines watch start (lines_in input) first at
+  pub text : take to out ++ texts_of w (lines_in (drop next input)) ≡ take at first ++ texts_of start (lines_in input)
+  pub left : unfinished (drop next input) ≡ unfinished input
+  pub within : next ≤ length input
+  pub digits : line ≡ line_number w.answered
 
-pub stands_first : (watch : Bool) (start : Work) (input : List ℕ) (from end : ℕ) (first : List ℕ) (at : ℕ) → from ≤ end → Stands watch start input from end first at start from first at
-stands_first watch start input from end first at low = record { outcome = refl; text = refl; left = refl; within = low }
+pub stands_first : (watch : Bool) (start : Work) (input first : List ℕ) (at : ℕ) (line : LineNumber) → line ≡ line_number start.answered
+    → Stands watch start input first at start 0 first at line
+stands_first watch start input first at line digits = record { outcome = refl; text = refl; left = refl; within = omega arith; digits = digits }
+
+-- What is known when one more line was answered: it goes on, or it ends there for the line's event.
+pub record Turned (watch : Bool) (start : Work) (input first : List ℕ) (at : ℕ) (a : After) (answered next : ℕ) (out : List ℕ) (to : ℕ) (line : LineNumber) : Type 0 where
+  pub goes_on : is_some (seen_of watch a.ran.answer a.ran.made) ≡ false → Stands watch start input first at (left_work a answered) next out to line
+  pub ends : (event : Option Event) → event ≡ seen_of watch a.ran.answer a.ran.made → is_some event ≡ true
+      → stopped (left_work a answered) (lines_in (drop next input)) out to event ≡ answer_lines watch start (lines_in input) first at
+  pub text : take to out ++ texts_of (left_work a answered) (lines_in (drop next input)) ≡ take at first ++ texts_of start (lines_in input)
+  pub left : unfinished (drop next input) ≡ unfinished input
+  pub within : next ≤ length input
 
 -- one more line
-module _ (watch : Bool) (start : Work) (input : List ℕ) (from end : ℕ) (first : List ℕ) (at : ℕ)
-    (session : Session) (memory owners holders : List ℕ) (answered next : ℕ) (out : List ℕ) (to : ℕ)
-    (stands : Stands watch start input from end first at (work session memory owners holders answered) next out to)
-    (stop : ℕ) (high : end ≤ length input) (found : stop ≡ next + length (first_line (between next end input))) (more : stop ≡ end → ⊥)
-    (command : Command) (reads : command ≡ command_of (handed (first_line (between next end input))))
-    (ran : Ran) (memory₁ owners₁ holders₁ out₁ : List ℕ) (to₁ : ℕ)
-    (room : can_answer (length out) to answered ≡ true)
-    (runs : after ran memory₁ owners₁ holders₁ ≡ run_command session memory owners holders command)
-    (put : out₁ ≡ answer_put (answered + 1) ran.answer out to) (ends : to₁ ≡ answer_end (answered + 1) ran.answer (length out) to) (fits : to₁ ≤ to + answer_room) where
-  abbrev line : List ℕ
-  line = handed (first_line (between next end input))
+module _ (watch : Bool) (start : Work) (input first : List ℕ) (at : ℕ) (w : Work) (next : ℕ) (out : List ℕ) (to : ℕ) (line : LineNumber)
+    (stands : Stands watch start input first at w next out to line) (room : can_answer (length out) to w.answered ≡ true)
+    (n : ℕ) (found : n ≡ length (first_line (drop next input))) (more : n + 1 ≤ length (drop next input))
+    (command : Option Command) (reads : command ≡ command_of (handed (first_line (drop next input))))
+    (a : After) (runs : a ≡ run_command w.session w.memory w.owners w.holders command)
+    (line₁ : LineNumber) (counted : line₁ ≡ counted_on line (w.answered + 1)) (out₁ : List ℕ) (to₁ : ℕ)
+    (put : out₁ ≡ line_put (digits_of (w.answered + 1) line₁) a.ran.answer out to) (ends : to₁ ≡ line_end (digits_of (w.answered + 1) line₁) a.ran.answer (length out) to)
+    (fits : to₁ ≤ to + 48) where
+  abbrev this : List ℕ
+  this = handed (first_line (drop next input))
 
-  did : after ran memory₁ owners₁ holders₁ ≡ run_line session memory owners holders line
-  did = as_line session memory owners holders line (after ran memory₁ owners₁ holders₁) command runs reads
+  rest : drop (n + 1) (drop next input) ≡ drop (next + (n + 1)) input
+  rest = drop-drop (n + 1) next input
 
-  the_lines : lines_in (between next end input) ≡ line ∷ lines_in (between (stop + 1) end input)
-  the_lines = next_line input next end stop stands.within high found more
+  did : a ≡ run_line w.session w.memory w.owners w.holders this
+  did = as_line w this a command runs reads
 
-  on_text : take to₁ out₁ ++ texts_of (work ran.session memory₁ owners₁ holders₁ (answered + 1)) (lines_in (between (stop + 1) end input))
-      ≡ take at first ++ texts_of start (lines_in (between from end input))
+  the_lines : lines_in (drop next input) ≡ this ∷ lines_in (drop (next + (n + 1)) input)
+  the_lines = next_line (drop next input) n found more ∙ ap (λ (l : List ℕ). this ∷ lines_in l) rest
+
+  digits₁ : line₁ ≡ line_number (w.answered + 1)
+  digits₁ = counted ∙ ap (λ (l : LineNumber). counted_on l (w.answered + 1)) stands.digits ∙ counts_on w.answered
+
+  put₁ : out₁ ≡ answer_put (w.answered + 1) a.ran.answer out to
+  put₁ = put ∙ ap (λ (l : LineNumber). line_put (digits_of (w.answered + 1) l) a.ran.answer out to) digits₁ ∙ line_put_lem (w.answered + 1) a.ran.answer out to
+
+  ends₁ : to₁ ≡ answer_end (w.answered + 1) a.ran.answer (length out) to
+  ends₁ = ends ∙ ap (λ (l : LineNumber). line_end (digits_of (w.answered + 1) l) a.ran.answer (length out) to) digits₁ ∙ line_end_lem (w.answered + 1) a.ran.answer (length out) to
+
+  fits₁ : to₁ ≤ to + answer_room
+  fits₁ = omega arith
+
+  on_text : take to₁ out₁ ++ texts_of (left_work a (w.answered + 1)) (lines_in (drop (next + (n + 1)) input)) ≡ take at first ++ texts_of start (lines_in input)
   on_text =
-      texts_on watch session memory owners holders answered line (lines_in (between (stop + 1) end input)) out to ran memory₁ owners₁ holders₁ out₁ to₁ room did put ends fits
-      ∙ ap (λ (l : List (List ℕ)). take to out ++ texts_of (work session memory owners holders answered) l) (sym the_lines)
+      texts_on watch w this (lines_in (drop (next + (n + 1)) input)) out to a out₁ to₁ room did put₁ ends₁ fits₁
+      ∙ ap (λ (l : List (List ℕ)). take to out ++ texts_of w l) (sym the_lines)
       ∙ stands.text
 
-  on_left : unfinished (between (stop + 1) end input) ≡ unfinished (between from end input)
-  on_left = next_left input next end stop stands.within high found more ∙ stands.left
+  on_left : unfinished (drop (next + (n + 1)) input) ≡ unfinished input
+  on_left = sym (ap unfinished rest) ∙ next_left (drop next input) n found more ∙ stands.left
 
-  on_within : stop + 1 ≤ end
-  on_within = line_ends input next end stop stands.within high found more
+  on_within : next + (n + 1) ≤ length input
+  on_within = let w = stands.within in omega (arith, length-drop next input)
 
-  pub turn_on : is_event (seen_of watch ran.answer ran.made) ≡ false
-      → Stands watch start input from end first at (work ran.session memory₁ owners₁ holders₁ (answered + 1)) (stop + 1) out₁ to₁
-  turn_on e =
+  pub turned : Turned watch start input first at a (w.answered + 1) (next + (n + 1)) out₁ to₁ line₁
+  turned =
       record {
-        outcome =
-            sym (answers_on watch session memory owners holders answered line (lines_in (between (stop + 1) end input)) out to ran memory₁ owners₁ holders₁ out₁ to₁ room did put ends fits e)
-            ∙ ap (λ (l : List (List ℕ)). answer_lines watch (work session memory owners holders answered) l out to) (sym the_lines)
+        goes_on = λ e. record {
+          outcome =
+              sym (answers_on watch w this (lines_in (drop (next + (n + 1)) input)) out to a out₁ to₁ room did put₁ ends₁ fits₁ e)
+              ∙ ap (λ (l : List (List ℕ)). answer_lines watch w l out to) (sym the_lines)
+              ∙ stands.outcome;
+          text = on_text;
+          left = on_left;
+          within = on_within;
+          digits = digits₁;
+        };
+        ends = λ event is e.
+            ap (λ (v : Option Event). stopped (left_work a (w.answered + 1)) (lines_in (drop (next + (n + 1)) input)) out₁ to₁ v) is
+            ∙ answers_stop watch w this (lines_in (drop (next + (n + 1)) input)) out to a out₁ to₁ room did put₁ ends₁ fits₁ (sym (ap (λ (v : Option Event). is_some v) is) ∙ e)
+            ∙ ap (λ (l : List (List ℕ)). answer_lines watch w l out to) (sym the_lines)
             ∙ stands.outcome;
         text = on_text;
         left = on_left;
         within = on_within;
       }
 
-  pub record Ended (event : Event) : Type 0 where
-    pub outcome : stopped (work ran.session memory₁ owners₁ holders₁ (answered + 1)) (lines_in (between (stop + 1) end input)) out₁ to₁ event
-        ≡ answer_lines watch start (lines_in (between from end input)) first at
-    pub text : take to₁ out₁ ++ texts_of (work ran.session memory₁ owners₁ holders₁ (answered + 1)) (lines_in (between (stop + 1) end input))
-        ≡ take at first ++ texts_of start (lines_in (between from end input))
-    pub left : unfinished (between (stop + 1) end input) ≡ unfinished (between from end input)
-    pub within : stop + 1 ≤ end
+-- the same, where the number of lines answered is known otherwise
+pub turned_to : (watch : Bool) (start : Work) (input first : List ℕ) (at : ℕ) (w : Work) (next : ℕ) (out : List ℕ) (to : ℕ) (line : LineNumber)
+    → Stands watch start input first at w next out to line → can_answer (length out) to w.answered ≡ true
+    → (n : ℕ) → n ≡ length (first_line (drop next input)) → n + 1 ≤ length (drop next input)
+    → (command : Option Command) → command ≡ command_of (handed (first_line (drop next input)))
+    → (a : After) → a ≡ run_command w.session w.memory w.owners w.holders command
+    → (count : ℕ) → w.answered + 1 ≡ count
+    → (line₁ : LineNumber) → line₁ ≡ counted_on line count → (out₁ : List ℕ) (to₁ : ℕ)
+    → out₁ ≡ line_put (digits_of count line₁) a.ran.answer out to → to₁ ≡ line_end (digits_of count line₁) a.ran.answer (length out) to → to₁ ≤ to + 48
+    → Turned watch start input first at a count (next + (n + 1)) out₁ to₁ line₁
+turned_to watch start input first at w next out to line stands room n found more command reads a runs count counts line₁ counted out₁ to₁ put ends fits =
+    subst
+    (λ (k : ℕ). line₁ ≡ counted_on line k → out₁ ≡ line_put (digits_of k line₁) a.ran.answer out to → to₁ ≡ line_end (digits_of k line₁) a.ran.answer (length out) to
+    → Turned watch start input first at a k (next + (n + 1)) out₁ to₁ line₁)
+    counts
+    (λ c p e. turned watch start input first at w next out to line stands room n found more command reads a runs line₁ c out₁ to₁ p e fits)
+    counted put ends
 
-  pub turn_ends : (event : Event) → event ≡ seen_of watch ran.answer ran.made → is_event event ≡ true → Ended event
-  turn_ends event is e =
-      let there : is_event (seen_of watch ran.answer ran.made) ≡ true = rw is at e in
-      record {
-        outcome =
-            ap (λ (v : Event). stopped (work ran.session memory₁ owners₁ holders₁ (answered + 1)) (lines_in (between (stop + 1) end input)) out₁ to₁ v) is
-            ∙ answers_stop watch session memory owners holders answered line (lines_in (between (stop + 1) end input)) out to ran memory₁ owners₁ holders₁ out₁ to₁ room did put ends fits there
-            ∙ ap (λ (l : List (List ℕ)). answer_lines watch (work session memory owners holders answered) l out to) (sym the_lines)
-            ∙ stands.outcome;
-        text = on_text;
-        left = on_left;
-        within = on_within;
-      }
+-- a stop after which nothing was done was for nothing
+pub idle : (followed flushed more : Bool) → (followed || flushed) && more ≡ false → more ≡ true → (followed ≡ false) × (flushed ≡ false)
+idle false false more e m = (refl, refl)
+idle false true more e m = absurd (true≢false (sym m ∙ e))
+idle true flushed more e m = absurd (true≢false (sym m ∙ e))
+
+pub can_answer_there : (lent at answered : ℕ) → at ≤ lent → answer_room ≤ lent - at → ltb answered last_number ≡ true → can_answer lent at answered ≡ true
+can_answer_there lent at answered h k e = rw (le-leb (at + answer_room) lent (omega arith), e) refl

@@ -1,16 +1,18 @@
 -- Lines are answered one after the other, up to a stop.
-use Rattle.std.specs.Prelude.{Bool, true, false, ◌&&◌, List, [], ◌∷◌, ℕ, ◌+◌, length, leb, ltb, if◌then◌else◌}
-use Rattle.rules.specs.declared.state.Machine.{Machine}
+use Rattle.std.specs.Prelude.{Bool, true, false, ◌&&◌, List, [], ◌∷◌, ℕ, ◌+◌, length, leb, ltb, Option, None, Some, is_some, Result, Ok, Err, if◌then◌else◌}
+use Rattle.std.specs.Option.{option_map}
 use Rattle.rules.specs.declared.answers.Answer.{Answer}
-use Rattle.rules.specs.declared.answers.Answer.TheVariants.{Refused, Ready, Taken, Moved, Waits, Load, Ll, Store, Sc, Poked, Word}
-use Rattle.rules.specs.declared.answers.Handed.{Handed}
-use Rattle.rules.specs.declared.answers.Handed.TheVariants as made
+use Rattle.rules.specs.declared.answers.Answer.TheVariants.{Ready, Taken, Moved, Waits, Load, Ll, Store, Sc, Poked, Word}
+use Rattle.rules.specs.declared.answers.Record.{Record}
+use Rattle.rules.specs.declared.refusals.Refusal.{Refusal}
+use Rattle.machine.specs.declared.place.Stepped.{Stepped}
+use Rattle.commands.specs.Effect.{After, after}
 use Rattle.commands.specs.Texts.{answer_put, answer_end}
-use Rattle.script.specs.declared.answering.Place.{Place}
+use Rattle.script.specs.declared.work.Work as rust
 use Rattle.script.specs.declared.answering.Event.{Event}
 use Rattle.script.specs.declared.answering.Event.TheVariants as event
 use Rattle.script.specs.Lines.{whole_lines, handed_on}
-use Rattle.script.specs.Output.{Work, ran_on, after_line}
+use Rattle.script.specs.Output.{Work, work, ran_on, after_line}
 
 -- the whole lines of some bytes, as they are handed on
 abbrev pub lines_in : List ℕ → List (List ℕ)
@@ -28,36 +30,26 @@ answer_room = 64
 abbrev pub can_answer : ℕ → ℕ → ℕ → Bool
 can_answer lent at answered = leb (at + answer_room) lent && ltb answered last_number
 
-abbrev pub is_ready : Answer → Bool
-is_ready (Refused n) = false
-is_ready Ready = true
-is_ready Taken = false
-is_ready Moved = false
-is_ready Waits = false
-is_ready (Load v) = false
-is_ready (Ll v) = false
-is_ready Store = false
-is_ready (Sc v) = false
-is_ready Poked = false
-is_ready (Word v) = false
+abbrev pub is_ready : Result Answer Refusal → Bool
+is_ready (Ok Ready) = true
+is_ready (Ok Taken) = false
+is_ready (Ok Moved) = false
+is_ready (Ok Waits) = false
+is_ready (Ok (Load v)) = false
+is_ready (Ok (Ll v)) = false
+is_ready (Ok Store) = false
+is_ready (Ok (Sc v)) = false
+is_ready (Ok Poked) = false
+is_ready (Ok (Word v)) = false
+is_ready (Err refusal) = false
 
--- the record that a line made, if it made one
-abbrev pub record_made : Handed → Event
-record_made made.Nothing = event.Nothing
-record_made (made.One r) = event.Made r
-
--- what an archive has to know of a line
-abbrev pub event_of : Answer → Handed → Event
-event_of answer made = if is_ready answer then event.Begun else record_made made
+-- what an archive has to know of a line: that it began a machine, or the record that it made
+abbrev pub event_of : Result Answer Refusal → Option Record → Option Event
+event_of answer made = if is_ready answer then Some event.Begun else option_map event.Made made
 
 -- where no archive is kept, no event is looked for
-abbrev pub seen_of : Bool → Answer → Handed → Event
-seen_of watch answer made = if watch then event_of answer made else event.Nothing
-
-abbrev pub is_event : Event → Bool
-is_event event.Nothing = false
-is_event event.Begun = true
-is_event (event.Made r) = true
+abbrev pub seen_of : Bool → Result Answer Refusal → Option Record → Option Event
+seen_of watch answer made = if watch then event_of answer made else None
 
 -- where the answering stopped: the lines that are left, the output so far and the event that it stopped for
 pub record Stopped : Type 0 where
@@ -65,14 +57,18 @@ pub record Stopped : Type 0 where
   pub lines : List (List ℕ)
   pub out : List ℕ
   pub at : ℕ
-  pub event : Event
+  pub event : Option Event
 
-abbrev pub stopped : Work → List (List ℕ) → List ℕ → ℕ → Event → Stopped
+abbrev pub stopped : Work → List (List ℕ) → List ℕ → ℕ → Option Event → Stopped
 stopped w lines out at e = record { work = w; lines = lines; out = out; at = at; event = e }
 
-abbrev pub place_of : ℕ → Machine → ℕ → ℕ → ℕ → Event → Place
-place_of begun m answered from at e =
-    record { session = record { begun = begun; machine = m }; answered = answered; from = from; at = at; event = e }
+-- what the program's lines run on
+abbrev pub work_of : rust.Work → Work
+work_of w = work w.session w.memory w.owners w.holders w.answered
+
+-- what a command left there, and its answer with the record that it made
+abbrev pub left_by : Stepped → rust.Work → After
+left_by done w = after (record { answer = done.answer; made = done.made; session = w.session }) w.memory w.owners w.holders
 
 -- of a line: the output with its answer, where the answer ends, and the event
 abbrev pub answer_in : Work → List ℕ → List ℕ → ℕ → List ℕ
@@ -81,16 +77,16 @@ answer_in w line out at = answer_put (w.answered + 1) (ran_on w line).ran.answer
 abbrev pub end_in : Work → List ℕ → List ℕ → ℕ → ℕ
 end_in w line out at = answer_end (w.answered + 1) (ran_on w line).ran.answer (length out) at
 
-abbrev pub event_in : Bool → Work → List ℕ → Event
+abbrev pub event_in : Bool → Work → List ℕ → Option Event
 event_in watch w line = seen_of watch (ran_on w line).ran.answer (ran_on w line).ran.made
 
 -- Line after line, until there is no line, or no room for another answer, or an event.
 unfoldable pub answer_lines : Bool → Work → List (List ℕ) → List ℕ → ℕ → Stopped
-answer_lines watch w [] out at = stopped w [] out at event.Nothing
+answer_lines watch w [] out at = stopped w [] out at None
 answer_lines watch w (line ∷ lines) out at =
     if can_answer (length out) at w.answered
     then
-    (if is_event (event_in watch w line)
+    (if is_some (event_in watch w line)
     then stopped (after_line w line) lines (answer_in w line out at) (end_in w line out at) (event_in watch w line)
     else answer_lines watch (after_line w line) lines (answer_in w line out at) (end_in w line out at))
-    else stopped w (line ∷ lines) out at event.Nothing
+    else stopped w (line ∷ lines) out at None

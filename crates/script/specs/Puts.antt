@@ -1,5 +1,5 @@
 -- A text is put into a buffer at a place, as far as there is room.
-use Rattle.std.specs.Prelude.{◌≡◌, List, ℕ, ◌+◌, ◌-◌, ◌≤◌, min, length, take}
+use Rattle.std.specs.Prelude.{List, ℕ, ◌+◌, ◌-◌, min, length}
 use Rattle.std.proofs.Math.Seq.{paste}
 
 -- how many bytes of the text have room
@@ -11,7 +11,3 @@ put_text text out at = paste out at text (put_count text out at)
 
 unfoldable pub put_end : List ℕ → List ℕ → ℕ → ℕ
 put_end text out at = at + put_count text out at
-
--- the first n bytes are there
-abbrev pub IsPrefixLen : ℕ → List ℕ → Type 0
-IsPrefixLen n xs = (n ≤ length xs) × (n ≡ length (take n xs))
