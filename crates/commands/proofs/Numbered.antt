@@ -20,7 +20,7 @@ use Rattle.commands.specs.Decimal.{decimal}
 use Rattle.commands.specs.Texts.{words_of, newline, number_text, rest_of, line_text, line_put, line_end, answer_put, answer_end, line_number_of, can_stand, two_digits, digits_stand, line_number, counted_on, digits_of, PutBefore}
 use Rattle.commands.specs.Promises.{DigitsAre, CountsOn}
 use Rattle.commands.specs.declared.text.LineNumber.{LineNumber}
-use Rattle.commands.proofs.Bools.{and₂}
+use Rattle.rules.proofs.Bools.{and₂}
 use Rattle.commands.proofs.Placed.{Put, length_put, put_put, put_after, put_then, decimal_few}
 use Rattle.commands.proofs.Written.{decimal_on, one_some}
 

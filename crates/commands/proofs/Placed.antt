@@ -97,3 +97,10 @@ put_then s t at out out₁ out₂ e₁ e₂ p q h =
       bytes = q.bytes ∙ rw (p.ends, p.bytes) (put_put s t at out h);
       ends = q.ends ∙ rw (p.ends, length-append s t) (omega arith);
     }
+
+-- as the code meets them: a text put in after another
+pub value_few : (n : ℕ) → n < 4294967296 → length (decimal n) ≤ 10
+value_few n l = decimal_few n 9 (omega (arith, l))
+
+pub put_both : (s t : List ℕ) (at e : ℕ) (out out₁ : List ℕ) → out₁ ≡ put_in s at out → e ≡ at + length s → at + length s + length t ≤ length out → put_in t e out₁ ≡ put_in (s ++ t) at out
+put_both s t at e out out₁ p q h = rw (p, q) (put_put s t at out h)

@@ -70,6 +70,7 @@ pub fn no_machine() -> Session
 }
 
 // `new CORES BYTES ENTRIES`
+#[tactic(auto, unfolding(crate::specs::Effect::new_of), using(crate::proofs::Begun::after_new))]
 fn begin(
     session: Session,
     memory: &mut [u8],

@@ -20,6 +20,7 @@ use crate::decimal::put_decimal;
 use machine::{Answer, Refusal, number_of};
 
 // A word, and the value after it.
+#[tactic(auto, using(crate::proofs::Placed::value_few, crate::proofs::Placed::put_both))]
 fn put_valued(word: &[u8], value: u32, out: &mut [u8], at: usize) -> usize
     requires { at + length word.now + 10 ≤ length out.old }
     ensures out_after { out.new ≡ put_in (word.now ++ decimal value) at out.old }
@@ -63,6 +64,7 @@ fn put_number(number: u64, out: &mut [u8], at: usize) -> usize
 }
 
 // A number of one digit, and the space after it.
+#[tactic(auto, using(crate::proofs::Placed::one_digit))]
 fn short_text(digit: u8) -> [u8; 2]
     requires { digit ≤ 9 }
     ensures { result ≡ number_text digit }
@@ -72,6 +74,7 @@ fn short_text(digit: u8) -> [u8; 2]
 
 // The number of an answer, and the space after it. Nearly every answer's number has one digit, which
 // costs less than a number of any length.
+#[tactic(auto, using(crate::proofs::Placed::value_few))]
 fn put_answer(number: u32, out: &mut [u8], at: usize) -> usize
     requires { at + 11 ≤ length out.old }
     ensures out_after { out.new ≡ put_in (number_text number) at out.old }
@@ -93,6 +96,7 @@ pub struct LineNumber {
     pub places: usize,
 }
 
+#[tactic(auto, unfolding(crate::specs::Texts::line_number), using(crate::proofs::Numbered::before_few))]
 pub fn line_number(number: u64) -> LineNumber
     ensures { result ≡ line_number number }
 {
@@ -111,6 +115,7 @@ pub fn line_number(number: u64) -> LineNumber
 }
 
 // The number after that of a line.
+#[tactic(auto, unfolding(crate::specs::Texts::counted_on))]
 pub fn counted_on(line: LineNumber, number: u64) -> LineNumber
     ensures { result ≡ counted_on line number }
 {
