@@ -65,9 +65,6 @@ pub record Reading (field : List ℕ) (value at : ℕ) : Type 0 where
   pub tested : all_digits field ≡ all_digits (drop at field)
   pub small : value < 4294967296
 
-pub reading_begins : (field : List ℕ) → Reading field 0 0
-reading_begins field = record { said = refl; tested = refl; small = omega arith }
-
 module _ (field : List ℕ) (value at : ℕ) (r : Reading field value at) (inside : at < length field) where
   abbrev byte : ℕ
   byte = get_or field at 0

@@ -88,9 +88,6 @@ pub record Put (text : List ℕ) (at : ℕ) (out out' : List ℕ) (end : ℕ) : 
   pub bytes : out' ≡ put_in text at out
   pub ends : end ≡ at + length text
 
-pub put_length : (text : List ℕ) (at : ℕ) (out out' : List ℕ) (end : ℕ) → Put text at out out' end → at + length text ≤ length out → length out' ≡ length out
-put_length text at out out' end p h = ap length p.bytes ∙ length_put text at out h
-
 pub put_then : (s t : List ℕ) (at : ℕ) (out out₁ out₂ : List ℕ) (e₁ e₂ : ℕ) → Put s at out out₁ e₁ → Put t e₁ out₁ out₂ e₂ → at + length s + length t ≤ length out → Put (s ++ t) at out out₂ e₂
 put_then s t at out out₁ out₂ e₁ e₂ p q h =
     record {

@@ -87,8 +87,8 @@ fn put_answer(number: u32, out: &mut [u8], at: usize) -> usize
     put_number(number as u64, out, at)
 }
 
-// The last two digits of a line's number, and the digits before them, which are written anew once in
-// a hundred lines. No places: they are not written (a number below 100, or of more than ten digits).
+// The last two digits of a line's number, and the digits before them, which are written anew once in a hundred lines.
+// A number below 100, or of more than ten digits, has none of these, and is written whole each time.
 #[derive(Clone, Copy)]
 pub struct LineNumber {
     pub last: u8,
@@ -97,37 +97,35 @@ pub struct LineNumber {
 }
 
 #[tactic(auto, unfolding(crate::specs::Texts::line_number), using(crate::proofs::Numbered::before_few))]
-pub fn line_number(number: u64) -> LineNumber
+pub fn line_number(number: u64) -> Option<LineNumber>
     ensures { result ≡ line_number number }
 {
     let before = number / 100;
-    let last = (number % 100) as u8;
-    let mut digits = [0u8; 8];
-    let mut places = 0;
-    if (0 < before) & (before < 100000000) {
-        places = put_decimal(before, &mut digits, 0);
+    let can_stand = (0 < before) & (before < 100000000);
+    if !can_stand {
+        return None;
     }
-    LineNumber {
-        last,
+    let mut digits = [0u8; 8];
+    let places = put_decimal(before, &mut digits, 0);
+    Some(LineNumber {
+        last: (number % 100) as u8,
         digits,
         places,
-    }
+    })
 }
 
 // The number after that of a line.
 #[tactic(auto, unfolding(crate::specs::Texts::counted_on))]
-pub fn counted_on(line: LineNumber, number: u64) -> LineNumber
+pub fn counted_on(line: Option<LineNumber>, number: u64) -> Option<LineNumber>
     ensures { result ≡ counted_on line number }
 {
-    if line.last < 99 {
-        let digits = line.digits;
-        return LineNumber {
+    match line {
+        Some(line) if line.last < 99 => Some(LineNumber {
             last: line.last + 1,
-            digits,
-            places: line.places,
-        };
+            ..line
+        }),
+        _ => line_number(number),
     }
-    line_number(number)
 }
 
 fn two_digits(n: u8) -> [u8; 2]
@@ -138,19 +136,19 @@ fn two_digits(n: u8) -> [u8; 2]
 
 // The digits of a line's number. All eight bytes go in, since a length that is known costs less than
 // one that is not: what follows covers those that are no digits.
-fn put_line_number(number: u64, line: LineNumber, out: &mut [u8], at: usize) -> usize
+fn put_line_number(number: u64, line: Option<LineNumber>, out: &mut [u8], at: usize) -> usize
     requires { at + 20 ≤ length out.old }
     ensures put_before { PutBefore (digits_of number line) at out.old out.new }
     ensures value { result ≡ at + length (digits_of number line) }
     ensures upper_bound { result ≤ at + 20 }
 {
-    let places = line.places;
-    if (0 < places) & (places <= 8) {
-        let digits = line.digits;
-        put(&digits, out, at);
-        return put(&two_digits(line.last), out, at + places);
+    match line {
+        Some(line) if (0 < line.places) & (line.places <= 8) => {
+            put(&line.digits, out, at);
+            put(&two_digits(line.last), out, at + line.places)
+        }
+        _ => put_decimal(number, out, at),
     }
-    put_decimal(number, out, at)
 }
 
 // What follows a line's number.
@@ -170,7 +168,7 @@ fn put_rest(answer: Result<Answer, Refusal>, out: &mut [u8], at: usize) -> usize
 // and answers where it ends.
 pub fn answer_line(
     number: u64,
-    line: LineNumber,
+    line: Option<LineNumber>,
     answer: Result<Answer, Refusal>,
     out: &mut [u8],
     at: usize,
