@@ -19,6 +19,8 @@ use crate::bytes::put;
 use crate::decimal::put_decimal;
 use machine::{Answer, Refusal, number_of};
 
+// `out` and `at` stay two parameters: a cursor of the two would be taken apart again at each `put`, and by the callers.
+
 // A word, and the value after it.
 #[tactic(auto, using(crate::proofs::Placed::value_few, crate::proofs::Placed::put_both))]
 fn put_valued(word: &[u8], value: u32, out: &mut [u8], at: usize) -> usize
@@ -31,6 +33,7 @@ fn put_valued(word: &[u8], value: u32, out: &mut [u8], at: usize) -> usize
     put_decimal(value as u64, out, to)
 }
 
+// No `Display`: it would have these arms too, and a formatter between them and the lent bytes.
 #[tactic(auto, unfolding(crate::specs::Texts::words_of))]
 fn put_words(answer: Result<Answer, Refusal>, out: &mut [u8], at: usize) -> usize
     requires { at + 15 ≤ length out.old }
@@ -88,7 +91,8 @@ fn put_answer(number: u32, out: &mut [u8], at: usize) -> usize
 }
 
 // The last two digits of a line's number, and the digits before them, which are written anew once in a hundred lines.
-// A number below 100, or of more than ten digits, has none of these, and is written whole each time.
+// A number below 100, or of more than ten digits, has none of these, and is written whole each time. The digits
+// are an array and how many of it count, since there is no heap here, and eight bytes are copied at once.
 #[derive(Clone, Copy)]
 pub struct LineNumber {
     pub last: u8,
