@@ -4,4 +4,3 @@ pub mod Cutting
 pub mod Pieces
 pub mod Outputs
 pub mod Answers
-pub mod Turning

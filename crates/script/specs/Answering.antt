@@ -7,6 +7,7 @@ use Rattle.rules.specs.declared.answers.Record.{Record}
 use Rattle.rules.specs.declared.refusals.Refusal.{Refusal}
 use Rattle.machine.specs.declared.place.Stepped.{Stepped}
 use Rattle.commands.specs.Effect.{After, after}
+use Rattle.commands.specs.Turns.{ran_in}
 use Rattle.commands.specs.Texts.{answer_put, answer_end}
 use Rattle.script.specs.declared.work.Work as rust
 use Rattle.script.specs.declared.answering.Event.{Event}
@@ -68,7 +69,7 @@ work_of w = work w.session w.memory w.owners w.holders w.answered
 
 -- what a command left there, and its answer with the record that it made
 abbrev pub left_by : Stepped → rust.Work → After
-left_by done w = after (record { answer = done.answer; made = done.made; session = w.session }) w.memory w.owners w.holders
+left_by done w = after (ran_in done w.session) w.memory w.owners w.holders
 
 -- of a line: the output with its answer, where the answer ends, and the event
 abbrev pub answer_in : Work → List ℕ → List ℕ → ℕ → List ℕ

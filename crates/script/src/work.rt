@@ -3,7 +3,7 @@ ghost use Rattle.commands.specs.Turns.{Sound};
 ghost use Rattle.std.proofs.Props.{props};
 
 use commands::{Command, Session};
-use machine::{Sizes, Stepped};
+use machine::Stepped;
 
 // The machine, the buffers that are lent to it, and how many lines were answered. The session is sound from the
 // first line on, so no line looks at its machine.
@@ -18,9 +18,8 @@ pub struct Work {
 }
 
 impl Work {
-    ghost use Rattle.std.specs.Prelude.{◌≡◌, ◌⊎◌, None};
+    ghost use Rattle.std.specs.Prelude.{◌≡◌};
     ghost use Rattle.commands.specs.Effect.{run_command};
-    ghost use Rattle.commands.specs.Turns.{one_core};
     ghost use Rattle.script.specs.Output.{fresh};
     ghost use Rattle.script.specs.Answering.{left_by, work_of};
 
@@ -37,59 +36,16 @@ impl Work {
         }
     }
 
-    // A command that makes a machine, or is done with none.
-    fn set_up(&mut self, command: Option<Command>) -> Stepped
-        requires { (self.old.session.machine ≡ None) ⊎ (one_core command ≡ None) }
-        ensures outcome { left_by result self.new ≡ run_command self.old.session self.old.memory self.old.owners self.old.holders command }
-        ensures answered { self.new.answered ≡ self.old.answered }
-    {
-        let ran = commands::set_up(
-            self.session,
-            &mut self.memory,
-            &mut self.owners,
-            &mut self.holders,
-            command,
-        );
-        self.session = ran.session;
-        Stepped {
-            answer: ran.answer,
-            made: ran.made,
-        }
-    }
-
-    // Does a command. A machine that stands is in its ranges, which each line keeps so. So nothing looks at it: a
-    // line's one core is copied out, the line is done on it, and it is put back; the machine itself is never copied.
+    // Does a line's command. Nothing looks at the machine, and it is not copied, but where a `new` makes one.
     pub(crate) fn run(&mut self, command: Option<Command>) -> Stepped
         ensures outcome { left_by result self.new ≡ run_command self.old.session self.old.memory self.old.owners self.old.holders command }
         ensures answered { self.new.answered ≡ self.old.answered }
     {
-        let Some(core) = commands::one_core_of(command) else {
-            return self.set_up(command);
-        };
-        let Some(machine) = &mut self.session.machine else {
-            return self.set_up(command);
-        };
-        let place = core % 8;
-        let did = commands::act(
-            Sizes::of(machine),
-            machine.cores[place],
+        self.session.run(
             &mut self.memory,
             &mut self.owners,
             &mut self.holders,
             command,
-        );
-        match did {
-            Ok(did) => {
-                machine.cores[place] = did.core;
-                Stepped {
-                    answer: Ok(did.answer),
-                    made: did.made,
-                }
-            }
-            Err(refusal) => Stepped {
-                answer: Err(refusal),
-                made: None,
-            },
-        }
+        )
     }
 }
