@@ -208,3 +208,8 @@ idle true flushed more e m = absurd (true≢false (sym m ∙ e))
 
 pub can_answer_there : (lent at answered : ℕ) → at ≤ lent → answer_room ≤ lent - at → ltb answered last_number ≡ true → can_answer lent at answered ≡ true
 can_answer_there lent at answered h k e = rw (le-leb (at + answer_room) lent (omega arith), e) refl
+
+pub nothing_done : (followed flushed more : Bool) (lent at answered : ℕ) → (followed || flushed) && more ≡ false → more ≡ true → (flushed ≡ false → answer_room ≤ lent - at) → at ≤ lent
+    → ltb answered last_number ≡ more → (followed ≡ false) × (can_answer lent at answered ≡ true)
+nothing_done followed flushed more lent at answered e m room within is =
+    let i = idle followed flushed more e m in (i.0, can_answer_there lent at answered within (room i.1) (is ∙ m))

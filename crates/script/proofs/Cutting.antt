@@ -15,7 +15,8 @@ use Rattle.std.specs.List.{position_or_len}
 use Rattle.std.proofs.lemmas.List.Sums.{position_or_len_is}
 use Rattle.memchr.specs.Find.{Nowhere, NoneBefore, Passes, is_byte}
 use Rattle.std.proofs.lemmas.List.Recursion.{is_position_or_len}
-use Rattle.commands.specs.Grammar.{step_word, command_of}
+use Rattle.commands.specs.Grammar.{step_word, command_of, short_step}
+use Rattle.commands.proofs.ShortSteps.{short_steps}
 use Rattle.commands.specs.Promises.{ShortStep}
 use Rattle.commands.specs.declared.grammar.Command.{Command}
 use Rattle.commands.specs.declared.grammar.Command.TheVariants.{Step}
@@ -164,3 +165,7 @@ module _ (s : List ℕ) (core : ℕ) (is : ShortStep s core) where
 
   pub short_command : ◌≡◌ {A = Option Command} (Some (Step core)) (command_of (handed (first_line s)))
   short_command = rw short_first (sym is.command)
+
+pub short_line : (s : List ℕ) (core : ℕ) → short_step s ≡ Some core
+    → (6 ≡ length (first_line s)) × (7 ≤ length s) × ◌≡◌ {A = Option Command} (Some (Step core)) (command_of (handed (first_line s)))
+short_line s core e = let is = short_steps s core e in (short_length s core is, short_ends s core is, short_command s core is)

@@ -4,3 +4,4 @@ pub mod Cutting
 pub mod Pieces
 pub mod Outputs
 pub mod Answers
+pub mod Puts

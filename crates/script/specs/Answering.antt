@@ -1,8 +1,8 @@
 -- Lines are answered one after the other, up to a stop.
-use Rattle.std.specs.Prelude.{Bool, true, false, ◌&&◌, List, [], ◌∷◌, ℕ, ◌+◌, length, leb, ltb, Option, None, Some, is_some, Result, Ok, Err, if◌then◌else◌}
+use Rattle.std.specs.Prelude.{Bool, true, false, ◌&&◌, List, [], ◌∷◌, ℕ, ◌+◌, length, leb, ltb, Option, None, Some, is_some, Result, Ok, if◌then◌else◌}
 use Rattle.std.specs.Option.{option_map}
 use Rattle.rules.specs.declared.answers.Answer.{Answer}
-use Rattle.rules.specs.declared.answers.Answer.TheVariants.{Ready, Taken, Moved, Waits, Load, Ll, Store, Sc, Poked, Word}
+use Rattle.rules.specs.declared.answers.Answer.TheVariants.{Ready}
 use Rattle.rules.specs.declared.answers.Record.{Record}
 use Rattle.rules.specs.declared.refusals.Refusal.{Refusal}
 use Rattle.machine.specs.declared.place.Stepped.{Stepped}
@@ -33,16 +33,7 @@ can_answer lent at answered = leb (at + answer_room) lent && ltb answered last_n
 
 abbrev pub is_ready : Result Answer Refusal → Bool
 is_ready (Ok Ready) = true
-is_ready (Ok Taken) = false
-is_ready (Ok Moved) = false
-is_ready (Ok Waits) = false
-is_ready (Ok (Load v)) = false
-is_ready (Ok (Ll v)) = false
-is_ready (Ok Store) = false
-is_ready (Ok (Sc v)) = false
-is_ready (Ok Poked) = false
-is_ready (Ok (Word v)) = false
-is_ready (Err refusal) = false
+is_ready answer = false
 
 -- what an archive has to know of a line: that it began a machine, or the record that it made
 abbrev pub event_of : Result Answer Refusal → Option Record → Option Event

@@ -37,6 +37,7 @@ impl Input {
     }
 
     // Moves what is handed on of an unfinished line to the front.
+    #[tactic(auto, using(crate::proofs::Cutting::kept_handed))]
     pub(crate) fn keep(&mut self, from: usize, end: usize)
         requires { (from ≤ end) × (end ≤ 65617) }
         ensures count { self.new.held ≡ min (length (between from end self.old.bytes)) 81 }

@@ -31,6 +31,7 @@ fn follow(rt: &HostRuntime, archives: &mut Option<Archives<'_>>, event: Option<E
 impl Serving<'_> {
     // Answers lines up to a stop, and does what it stopped for: an event goes to the archive, and a full output is
     // written out. Answers where it stopped, and breaks if that was for nothing, or if no line can have a number.
+    #[tactic(auto, using(crate::proofs::Answers::nothing_done))]
     fn answer_some(
         &mut self,
         rt: &HostRuntime,

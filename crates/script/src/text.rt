@@ -13,7 +13,7 @@ pub struct Text<const N: usize> {
 }
 
 impl<const N: usize> Text<N> {
-    pub fn new() -> Text<N>
+    pub(crate) fn new() -> Text<N>
         ensures { result.len ≡ 0 }
     {
         Text {
@@ -22,19 +22,20 @@ impl<const N: usize> Text<N> {
         }
     }
 
-    pub fn as_bytes(&self) -> &[u8]
+    pub(crate) fn as_bytes(&self) -> &[u8]
         ensures { result.now ≡ take self.now.len self.now.bytes }
     {
         &self.bytes[..self.len]
     }
 
-    pub fn room(&self) -> usize
+    pub(crate) fn room(&self) -> usize
         ensures { result ≡ length self.now.bytes - self.now.len }
     {
         N - self.len
     }
 
-    pub fn put(&mut self, text: &[u8])
+    #[tactic(auto, unfolding(crate::specs::Puts::put_text, crate::specs::Puts::put_end), using(crate::proofs::Puts::put_is))]
+    pub(crate) fn put(&mut self, text: &[u8])
         ensures text { self.new.bytes ≡ put_text text.now self.old.bytes self.old.len }
         ensures end { self.new.len ≡ put_end text.now self.old.bytes self.old.len }
     {
