@@ -16,8 +16,8 @@ fn places(rt: &HostRuntime, block: &[u8; 512], number: u32) -> io::Result<()> {
 }
 
 pub(crate) fn blocks(rt: &HostRuntime, archive: &Blocks) -> io::Result<()> {
-    for number in 0..4 {
-        places(rt, &archive[number as usize], number)?;
+    for (number, block) in (0..).zip(archive) {
+        places(rt, block, number)?;
     }
     let first = &archive[0];
     line(rt, "check", check_block(first, 0, false))?;

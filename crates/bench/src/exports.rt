@@ -1,4 +1,5 @@
-// The calls as bench/malthobre.h declares them; the crate `bench_c` exports them to C.
+// The calls as bench/malthobre.h declares them; the crate `bench_c` exports them to C. The lent buffers are separate
+// parameters, a number is an answer and 16 bytes are a record for the C interface.
 ghost use Rattle.std.specs.Prelude.{◌≡◌};
 ghost use Rattle.bench.specs.Left.{left};
 ghost use Rattle.bench.specs.Machines.{start_left, step_left, poke_left, start_call, give_call, step_call, poke_call, show_call};

@@ -6,14 +6,14 @@ ghost use Rattle.bench.specs.Packed.{done, refused_at, packed_by, packed_answer,
 use archive::{ArchiveRefusal, Numbered, Put, encode_record};
 use machine::{Answer, GuestAddress, Operation, Record, Refusal};
 
-// A length or an index, in 32 bits.
+// A length or an index, in 32 bits. By hand: a From or TryFrom does not cut a number short, so none is plainer.
 fn low(x: usize) -> u32
     ensures { result ≡ x % 4294967296 }
 {
     (x % 4294967296) as u32
 }
 
-// The words are those of bench/malthobre.h.
+// The word says which answer it is, and the value stands beside it. The words are numbers for the C interface, bench/malthobre.h.
 fn done(word: u8, value: u32) -> u64
     ensures { result ≡ done word value }
 {
@@ -142,7 +142,7 @@ pub(crate) fn read_bytes<E>(answer: &Result<Option<Numbered>, E>) -> [u8; 16]
     }
 }
 
-// The operation that a number asks for.
+// The operation that a number asks for; a number and two arguments cross for the C interface.
 #[tactic(auto, unfolding(crate::specs::Packed::asked_of))]
 pub(crate) fn asked_of(code: u8, a: u32, value: u32) -> Option<Operation>
     ensures { result ≡ asked_of code a value }

@@ -1,5 +1,6 @@
 #![tactic(auto)]
-// What is exported to C, as bench/malthobre.h declares it: each export is the call of `bench` of its name.
+// What is exported to C, as bench/malthobre.h declares it: each export is the call of `bench` of its name. Twins of
+// those calls for the C interface, since a crate is a library or a static library.
 ghost use Rattle.std.specs.Prelude.{◌≡◌};
 ghost use Rattle.bench.specs.Left.{left};
 ghost use Rattle.bench.specs.Machines.{start_left, step_left, poke_left, start_call, give_call, step_call, poke_call, show_call};

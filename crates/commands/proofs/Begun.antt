@@ -25,7 +25,7 @@ use Rattle.commands.specs.declared.grammar.Command.{Command}
 use Rattle.commands.specs.declared.grammar.Command.TheVariants.{New, Give, Step, Poke, Show}
 use Rattle.commands.specs.declared.effect.Session.{Session}
 use Rattle.commands.specs.declared.effect.Ran.{Ran}
-use Rattle.commands.proofs.Bools.{and₂}
+use Rattle.rules.proofs.Bools.{and₂}
 
 module _ (session : Session) (memory owners holders : List ℕ) (cores bytes entries : ℕ) where
   -- by its refusal

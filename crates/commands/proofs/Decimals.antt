@@ -12,7 +12,7 @@ use lib.Dec.{eqb, ltb, leb}
 use borrow.Author.Tests.{le-leb, ltb-true, ltb-false, ne_eqb}
 use Rattle.commands.specs.Bytes.{space, first_field, more_fields, after_field}
 use Rattle.commands.specs.Decimal.{largest, is_digit, digit_of, all_digits, value_from, number_from, number_in, digits_before, decimal}
-use Rattle.commands.proofs.Bools.{and₂}
+use Rattle.rules.proofs.Bools.{and₂}
 use Rattle.commands.proofs.Digits.{digit_no_space}
 use Rattle.commands.proofs.Written.{one_some}
 

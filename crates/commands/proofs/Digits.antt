@@ -14,7 +14,7 @@ use lib.Dec.{eqb, leb, ltb}
 use borrow.Author.Tests.{le-leb, leb-true, lt-leb, lt-ltb, ne_eqb}
 use Rattle.commands.specs.Bytes.{space}
 use Rattle.commands.specs.Decimal.{largest, is_digit, digit_of, all_digits, value_from, number_from, number_in}
-use Rattle.commands.proofs.Bools.{and₂}
+use Rattle.rules.proofs.Bools.{and₂}
 
 pub digit_bounds : (b : ℕ) → is_digit b ≡ true → (48 ≤ b) × (b ≤ 57)
 digit_bounds b h = let k = and₂ (leb 48 b) (leb b 57) h in (leb-true 48 b k.0, leb-true b 57 k.1)
@@ -64,9 +64,6 @@ pub record Reading (field : List ℕ) (value at : ℕ) : Type 0 where
   pub said : value_from 0 field ≡ value_from value (drop at field)
   pub tested : all_digits field ≡ all_digits (drop at field)
   pub small : value < 4294967296
-
-pub reading_begins : (field : List ℕ) → Reading field 0 0
-reading_begins field = record { said = refl; tested = refl; small = omega arith }
 
 module _ (field : List ℕ) (value at : ℕ) (r : Reading field value at) (inside : at < length field) where
   abbrev byte : ℕ

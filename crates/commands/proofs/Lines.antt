@@ -1,6 +1,6 @@
 -- The fields of a line as the code meets them, one after the other; and the word that a line begins with.
 -- Assumes nothing.
-use Rattle.std.specs.Prelude.{Option, Some, None, option_map, option_and_then}
+use Rattle.std.specs.Prelude.{Some, None, option_map}
 use Rattle.std.specs.Cmp.Lexicographic.{pointwise}
 use Rattle.std.proofs.Common.{if◌then◌else◌}
 use mathlib.Core.Path.{◌≡◌, refl, ap, ◌∙◌, sym}
@@ -14,10 +14,10 @@ use lib.Seq.{take_all}
 use lib.Dec.{eqb}
 use Rattle.commands.specs.Bytes.{begins, first_field, more_fields, after_field}
 use Rattle.commands.specs.Decimal.{number_in, field_of}
-use Rattle.commands.specs.Grammar.{numbers_of, second_number, third_number, step_command, give_command, operation_of}
+use Rattle.commands.specs.Grammar.{numbers_of, second_number, third_number, give_command, operation_of}
 use Rattle.commands.specs.declared.decimal.Field.{Field}
 use Rattle.commands.specs.declared.grammar.Numbers.TheVariants.{One, Two, Three}
-use Rattle.commands.specs.declared.grammar.Command.TheVariants.{Step, Give}
+use Rattle.commands.specs.declared.grammar.Command.TheVariants.{Give}
 use Rattle.commands.proofs.Fields.{after_field_lem}
 
 -- the word that some bytes begin with, as the library tests it
@@ -33,18 +33,6 @@ tested word s t e = sym (begins_is word s) ∙ e
 -- what stands from a place on, as a slice has it
 pub from_on : (s : List ℕ) (n : ℕ) → take (length s - n) (drop n s) ≡ drop n s
 from_on s n = take_all (length s - n) (drop n s) (let l = length-drop n s in omega (arith, l))
-
-no_step : (a : ℕ) (s : List ℕ) → None ≡ option_and_then step_command (second_number a s)
-unfolding second_number third_number
-no_step a s = go (number_in (first_field s)) (more_fields s) (number_in (first_field (after_field s))) (more_fields (after_field s))
-  where
-    go : (n : Option ℕ) (t : Bool) (m : Option ℕ) (u : Bool)
-        → None ≡ option_and_then step_command (option_and_then (λ b. if t then option_and_then (λ c. if u then None else Some (Three a b c)) m else Some (Two a b)) n)
-    go None t m u = refl
-    go (Some b) false m u = refl
-    go (Some b) true None u = refl
-    go (Some b) true (Some c) true = refl
-    go (Some b) true (Some c) false = refl
 
 module _ (s : List ℕ) (f : Field) (e : f ≡ field_of s) where
   number : number_in (first_field s) ≡ f.number
@@ -99,13 +87,6 @@ module _ (s : List ℕ) (f : Field) (e : f ≡ field_of s) where
   unfolding give_command
   give_on core next t n m rest = let k = goes_on next m in rw (number ∙ n, k.0, k.1, rest)
 
-  -- a step's one number
-  pub step_none : f.number ≡ None → None ≡ option_and_then step_command (numbers_of s)
-  step_none n = ap (option_and_then step_command) (numbers_none n)
-
-  pub step_one : (core : ℕ) → f.number ≡ Some core → f.next ≡ None → Some (Step core) ≡ option_and_then step_command (numbers_of s)
-  step_one core n m = ap (option_and_then step_command) (numbers_one core n m)
-
 -- a second
 module _ (s : List ℕ) (f : Field) (e : f ≡ field_of s) (a next : ℕ) (n : f.number ≡ Some a) (m : f.next ≡ Some next) (t : List ℕ) (rest : t ≡ drop next s) (g : Field) (h : g ≡ field_of t) where
   second : second_number a t ≡ numbers_of s
@@ -135,7 +116,3 @@ module _ (s : List ℕ) (f : Field) (e : f ≡ field_of s) (a next : ℕ) (n : f
     pub third_three : (c : ℕ) → i.number ≡ Some c → i.next ≡ None → Some (Three a b c) ≡ numbers_of s
     unfolding third_number
     third_three c p q = rw (number u i j ∙ p, ends u i j q) at third
-
--- two numbers or three are no step's
-pub step_more : (s : List ℕ) (f : Field) (e : f ≡ field_of s) (core next : ℕ) → f.number ≡ Some core → f.next ≡ Some next → None ≡ option_and_then step_command (numbers_of s)
-step_more s f e core next n m = no_step core (drop next s) ∙ ap (option_and_then step_command) (numbers_on s f e core next n m)

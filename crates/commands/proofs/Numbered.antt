@@ -1,6 +1,6 @@
 -- The digits of a line's number, kept from line to line, and what follows them.
 -- Assumes nothing.
-use Rattle.std.specs.Prelude.{Result, Ok, Err}
+use Rattle.std.specs.Prelude.{Option, Some, None, Result, Ok, Err}
 use Rattle.std.proofs.Common.{if◌then◌else◌}
 use mathlib.Core.Path.{◌≡◌, refl, ap, ◌∙◌, sym}
 use mathlib.Core.Bool.{Bool, true, false}
@@ -10,7 +10,7 @@ use native.Mathlib.Omega.{arith}
 use lib.ListN.{length, take, drop, replicate, length-append}
 use lib.Seq.{take_at, length-take-le}
 use lib.Dec.{leb, ltb}
-use borrow.Author.Tests.{lt-ltb, lt-leb, le-leb, leb-true, ltb-true}
+use borrow.Author.Tests.{lt-ltb, le-leb, leb-true, ltb-true}
 use Rattle.rules.specs.Refusals.{number_in}
 use Rattle.rules.specs.declared.answers.Answer.{Answer}
 use Rattle.rules.specs.declared.answers.Answer.TheVariants.{Ready, Taken, Moved, Waits, Load, Ll, Store, Sc, Poked, Word}
@@ -20,7 +20,7 @@ use Rattle.commands.specs.Decimal.{decimal}
 use Rattle.commands.specs.Texts.{words_of, newline, number_text, rest_of, line_text, line_put, line_end, answer_put, answer_end, line_number_of, can_stand, two_digits, digits_stand, line_number, counted_on, digits_of, PutBefore}
 use Rattle.commands.specs.Promises.{DigitsAre, CountsOn}
 use Rattle.commands.specs.declared.text.LineNumber.{LineNumber}
-use Rattle.commands.proofs.Bools.{and₂}
+use Rattle.rules.proofs.Bools.{and₂}
 use Rattle.commands.proofs.Placed.{Put, length_put, put_put, put_after, put_then, decimal_few}
 use Rattle.commands.proofs.Written.{decimal_on, one_some}
 
@@ -46,28 +46,31 @@ digits_are n = go (can_stand (n / 100)) refl
     d : List ℕ
     d = decimal (n / 100)
 
-    go : (t : Bool) → can_stand (n / 100) ≡ t
-        → digits_of n (line_number_of (n % 100) (if t then put_in d 0 (replicate 8 0) else replicate 8 0) (if t then length d else 0)) ≡ decimal n
+    go : (t : Bool) → can_stand (n / 100) ≡ t → digits_of n (if t then Some (line_number_of (n % 100) (put_in d 0 (replicate 8 0)) (length d)) else None) ≡ decimal n
     go false e = refl
     go true e =
         let low = ltb-true 0 (n / 100) (and₂ (ltb 0 (n / 100)) (ltb (n / 100) 100000000) e).0 in
         let few : length d ≤ 8 = before_few (n / 100) e in
-        let some = lt-ltb 0 (length d) (one_some (n / 100)) in
         let digits : take (length d) (put_in d 0 (replicate 8 0)) ≡ d = take_at d (drop (0 + length d) (replicate 8 0)) (length d) refl in
+        let some = lt-ltb 0 (length d) (one_some (n / 100)) in
         rw (some, le-leb (length d) 8 few, digits) (sym (decimal_two n (omega arith)))
 
 -- they are kept from a line to the next
 pub counts_on : CountsOn
 unfolding counted_on line_number
-counts_on n = go (ltb (n % 100) 99) refl
+counts_on n = go (can_stand (n / 100)) refl (ltb (n % 100) 99) refl
   where
-    go : (t : Bool) → ltb (n % 100) 99 ≡ t → (if t then line_number_of (n % 100 + 1) (line_number n).digits (line_number n).places else line_number (n + 1)) ≡ line_number (n + 1)
-    go false e = refl
-    go true e =
+    standing : Option LineNumber
+    standing = Some (line_number_of (n % 100) (put_in (decimal (n / 100)) 0 (replicate 8 0)) (length (decimal (n / 100))))
+
+    go : (s : Bool) → can_stand (n / 100) ≡ s → (t : Bool) → ltb (n % 100) 99 ≡ t → counted_on (if s then standing else None) (n + 1) ≡ line_number (n + 1)
+    go false f t e = refl
+    go true f false e = rw e
+    go true f true e =
         let l = ltb-true (n % 100) 99 e in
         let before : (n + 1) / 100 ≡ n / 100 = omega arith in
         let last : (n + 1) % 100 ≡ n % 100 + 1 = omega arith in
-        rw (before, last)
+        rw (e, before, last, f)
 
 -- so a line's answer is the one of its number
 pub line_put_lem : (n : ℕ) (answer : Result Answer Refusal) (out : List ℕ) (at : ℕ) → line_put (digits_of n (line_number n)) answer out at ≡ answer_put n answer out at
@@ -91,7 +94,7 @@ eight_before eight two places at out e t low high text five room =
     ∙ put_after eight (two ++ text) places at out (omega arith) (omega arith) (omega arith)
     ∙ ap (λ (s : List ℕ). put_in s at out) (sym (append_assoc first two text))
 
-pub few_places : (line : LineNumber) → digits_stand line ≡ true → (0 < line.places) × (line.places ≤ 8)
+few_places : (line : LineNumber) → digits_stand line ≡ true → (0 < line.places) × (line.places ≤ 8)
 few_places line stand = let k = and₂ (ltb 0 line.places) (leb line.places 8) stand in (ltb-true 0 line.places k.0, leb-true line.places 8 k.1)
 
 -- what is known once a line's number is put in
@@ -100,7 +103,7 @@ NumberPut digits at out out' end = PutBefore digits at out out' × ((end ≡ at 
 
 pub standing_put : (number : ℕ) (line : LineNumber) (two : List ℕ) (at : ℕ) (out out₁ out₂ : List ℕ) (e₁ e₂ : ℕ)
     → length line.digits ≡ 8 → digits_stand line ≡ true → two ≡ two_digits line.last
-    → Put line.digits at out out₁ e₁ → Put two (at + line.places) out₁ out₂ e₂ → NumberPut (digits_of number line) at out out₂ e₂
+    → Put line.digits at out out₁ e₁ → Put two (at + line.places) out₁ out₂ e₂ → NumberPut (digits_of number (Some line)) at out out₂ e₂
 unfolding digits_of
 standing_put number line two at out out₁ out₂ e₁ e₂ eight stand is p q =
     let places = few_places line stand in
@@ -111,13 +114,18 @@ standing_put number line two at out out₁ out₂ e₁ e₂ eight stand is p q =
     let end = q.ends in
     rw (stand, ← is, q.bytes, p.bytes) (eight_before line.digits two line.places at out eight t places.0 places.1, (omega arith, omega arith))
 
-pub own_put : (number : ℕ) (line : LineNumber) (at : ℕ) (out out₁ : List ℕ) (e₁ : ℕ)
-    → number < 18446744073709551616 → digits_stand line ≡ false → Put (decimal number) at out out₁ e₁ → NumberPut (digits_of number line) at out out₁ e₁
-unfolding digits_of
-own_put number line at out out₁ e₁ small none p =
+-- and where it is written whole
+own_put : (number at : ℕ) (out out₁ : List ℕ) (e₁ : ℕ) → number < 18446744073709551616 → Put (decimal number) at out out₁ e₁ → NumberPut (decimal number) at out out₁ e₁
+own_put number at out out₁ e₁ small p =
     let few = decimal_few number 19 (omega arith) in
     let end = p.ends in
-    rw (none, p.bytes) ((λ text five room. put_put (decimal number) text at out room), (end, omega arith))
+    rw p.bytes ((λ text five room. put_put (decimal number) text at out room), (end, omega arith))
+
+pub whole_put : (number : ℕ) (line : Option LineNumber) (at : ℕ) (out out₁ : List ℕ) (e₁ : ℕ)
+    → number < 18446744073709551616 → ((l : LineNumber) → line ≡ Some l → digits_stand l ≡ false) → Put (decimal number) at out out₁ e₁ → NumberPut (digits_of number line) at out out₁ e₁
+unfolding digits_of
+whole_put number None at out out₁ e₁ small more p = own_put number at out out₁ e₁ small p
+whole_put number (Some l) at out out₁ e₁ small more p = rw (more l refl) (own_put number at out out₁ e₁ small p)
 
 -- what follows the number
 pub rest_put : (answer : Result Answer Refusal) (n at : ℕ) (out out₁ out₂ out₃ out₄ : List ℕ) (e₁ e₂ e₃ e₄ : ℕ) → n ≡ number_in answer → at + 28 ≤ length out
@@ -156,9 +164,6 @@ rest_some answer =
 -- what is known once an answer was to be written
 abbrev LinePut : List ℕ → Result Answer Refusal → ℕ → List ℕ → List ℕ → ℕ → Type 0
 LinePut digits answer at out out' end = (out' ≡ line_put digits answer out at) × ((end ≡ line_end digits answer (length out) at) × (end ≤ at + 48))
-
-pub no_room : (digits : List ℕ) (answer : Result Answer Refusal) (at : ℕ) (out : List ℕ) → length out < at + 48 → LinePut digits answer at out out at
-no_room digits answer at out l = rw (lt-leb (at + 48) (length out) l) (refl, (refl, omega arith))
 
 pub line_written : (digits : List ℕ) (answer : Result Answer Refusal) (at : ℕ) (out out₁ out₂ : List ℕ) (e₁ e₂ : ℕ) → at + 48 ≤ length out
     → NumberPut digits at out out₁ e₁ → Put (rest_of answer) e₁ out₁ out₂ e₂ → e₂ ≤ e₁ + 28 → LinePut digits answer at out out₂ e₂

@@ -22,7 +22,7 @@ use Rattle.commands.specs.declared.grammar.Numbers.{Numbers}
 use Rattle.commands.specs.declared.grammar.Numbers.TheVariants.{One, Two, Three}
 use Rattle.commands.specs.declared.grammar.Command.{Command}
 use Rattle.commands.specs.declared.grammar.Command.TheVariants.{Give, Poke, Show}
-use Rattle.commands.proofs.Bools.{and₂}
+use Rattle.rules.proofs.Bools.{and₂}
 use Rattle.commands.proofs.Digits.{digit_bounds}
 use Rattle.commands.proofs.Placed.{one_digit}
 use Rattle.commands.proofs.Written.{decimal_on}

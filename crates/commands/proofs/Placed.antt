@@ -88,12 +88,16 @@ pub record Put (text : List ℕ) (at : ℕ) (out out' : List ℕ) (end : ℕ) : 
   pub bytes : out' ≡ put_in text at out
   pub ends : end ≡ at + length text
 
-pub put_length : (text : List ℕ) (at : ℕ) (out out' : List ℕ) (end : ℕ) → Put text at out out' end → at + length text ≤ length out → length out' ≡ length out
-put_length text at out out' end p h = ap length p.bytes ∙ length_put text at out h
-
 pub put_then : (s t : List ℕ) (at : ℕ) (out out₁ out₂ : List ℕ) (e₁ e₂ : ℕ) → Put s at out out₁ e₁ → Put t e₁ out₁ out₂ e₂ → at + length s + length t ≤ length out → Put (s ++ t) at out out₂ e₂
 put_then s t at out out₁ out₂ e₁ e₂ p q h =
     record {
       bytes = q.bytes ∙ rw (p.ends, p.bytes) (put_put s t at out h);
       ends = q.ends ∙ rw (p.ends, length-append s t) (omega arith);
     }
+
+-- as the code meets them: a text put in after another
+pub value_few : (n : ℕ) → n < 4294967296 → length (decimal n) ≤ 10
+value_few n l = decimal_few n 9 (omega (arith, l))
+
+pub put_both : (s t : List ℕ) (at e : ℕ) (out out₁ : List ℕ) → out₁ ≡ put_in s at out → e ≡ at + length s → at + length s + length t ≤ length out → put_in t e out₁ ≡ put_in (s ++ t) at out
+put_both s t at e out out₁ p q h = rw (p, q) (put_put s t at out h)

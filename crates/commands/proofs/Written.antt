@@ -108,9 +108,6 @@ pub record Writing (number at : ℕ) (out₀ : List ℕ) (left to : ℕ) (out : 
   pub room : to ≤ length out
   pub gives : put_in (decimal left) at out ≡ put_in (decimal number) at out₀
 
-pub writing_begins : (number at : ℕ) (out : List ℕ) (end : ℕ) → end ≡ at + length (decimal number) → at + length (decimal number) ≤ length out → Writing number at out number end out
-writing_begins number at out end e h = record { ends = e; room = omega arith; gives = refl }
-
 pub writing_on : (number at : ℕ) (out₀ : List ℕ) (left to : ℕ) (out : List ℕ) → Writing number at out₀ left to out → 9 < left → Writing number at out₀ (left / 10) (to - 1) (set out (to - 1) (48 + left % 10))
 writing_on number at out₀ left to out w l =
     let e : to - 1 ≡ at + length (decimal (left / 10)) = let h = w.ends in let k = one_more left l in omega arith in

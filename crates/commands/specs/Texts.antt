@@ -108,25 +108,26 @@ line_number_of last digits places = record { last = last; digits = digits; place
 abbrev pub can_stand : ℕ → Bool
 can_stand before = ltb 0 before && ltb before 100000000
 
--- a line's number: its last two digits, and the digits before them where they can stand
-unfoldable pub line_number : ℕ → LineNumber
+-- a line's number: its last two digits, and the digits before them, where they can stand
+unfoldable pub line_number : ℕ → Option LineNumber
 line_number number =
-    line_number_of
-    (number % 100)
-    (if can_stand (number / 100) then put_in (decimal (number / 100)) 0 (replicate 8 0) else replicate 8 0)
-    (if can_stand (number / 100) then length (decimal (number / 100)) else 0)
+    if can_stand (number / 100)
+    then Some (line_number_of (number % 100) (put_in (decimal (number / 100)) 0 (replicate 8 0)) (length (decimal (number / 100))))
+    else None
 
 -- the number after that of a line: only its last two digits change, but once in a hundred lines
-unfoldable pub counted_on : LineNumber → ℕ → LineNumber
-counted_on line number = if ltb line.last 99 then line_number_of (line.last + 1) line.digits line.places else line_number number
+unfoldable pub counted_on : Option LineNumber → ℕ → Option LineNumber
+counted_on None number = line_number number
+counted_on (Some line) number = if ltb line.last 99 then Some (line_number_of (line.last + 1) line.digits line.places) else line_number number
 
--- the digits before its last two stand there
+-- one to eight digits stand before its last two
 abbrev pub digits_stand : LineNumber → Bool
 digits_stand line = ltb 0 line.places && leb line.places 8
 
 -- the digits that a line's number is written in: those that stand there, or else its own
-unfoldable pub digits_of : ℕ → LineNumber → List ℕ
-digits_of number line = if digits_stand line then take line.places line.digits ++ two_digits line.last else decimal number
+unfoldable pub digits_of : ℕ → Option LineNumber → List ℕ
+digits_of number None = decimal number
+digits_of number (Some line) = if digits_stand line then take line.places line.digits ++ two_digits line.last else decimal number
 
 -- digits were put in at a place, and with them up to five bytes more, which what is put in after them covers
 abbrev pub PutBefore : List ℕ → ℕ → List ℕ → List ℕ → Type 0

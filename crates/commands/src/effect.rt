@@ -69,7 +69,11 @@ pub fn no_machine() -> Session
     Session { machine: None }
 }
 
+// Memory, owners and holders stay three parameters: a struct of three borrows would be taken apart at each call of
+// the machine, which uses the first bytes of each.
+
 // `new CORES BYTES ENTRIES`
+#[tactic(auto, unfolding(crate::specs::Effect::new_of), using(crate::proofs::Begun::after_new))]
 fn begin(
     session: Session,
     memory: &mut [u8],

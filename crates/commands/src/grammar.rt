@@ -109,17 +109,13 @@ fn give_in(bytes: &[u8]) -> Option<Command>
     operation_in(&bytes[next..]).map(|operation| Command::Give(core, operation))
 }
 
-// Most lines are steps: their one number is read by itself.
-#[tactic(auto, using(crate::proofs::Lines::step_none, crate::proofs::Lines::step_one, crate::proofs::Lines::step_more))]
 fn step_in(bytes: &[u8]) -> Option<Command>
     ensures { result ≡ option_and_then step_command (numbers_of bytes.now) }
 {
-    let first = field_of(bytes);
-    let core = first.number?;
-    match first.next {
-        Some(_) => None,
-        None => Some(Command::Step(core)),
-    }
+    let Numbers::One(core) = numbers_in(bytes)? else {
+        return None;
+    };
+    Some(Command::Step(core))
 }
 
 fn new_in(bytes: &[u8]) -> Option<Command>

@@ -19,7 +19,10 @@ use crate::bytes::put;
 use crate::decimal::put_decimal;
 use machine::{Answer, Refusal, number_of};
 
+// `out` and `at` stay two parameters: a cursor of the two would be taken apart again at each `put`, and by the callers.
+
 // A word, and the value after it.
+#[tactic(auto, using(crate::proofs::Placed::value_few, crate::proofs::Placed::put_both))]
 fn put_valued(word: &[u8], value: u32, out: &mut [u8], at: usize) -> usize
     requires { at + length word.now + 10 ≤ length out.old }
     ensures out_after { out.new ≡ put_in (word.now ++ decimal value) at out.old }
@@ -30,6 +33,7 @@ fn put_valued(word: &[u8], value: u32, out: &mut [u8], at: usize) -> usize
     put_decimal(value as u64, out, to)
 }
 
+// No `Display`: it would have these arms too, and a formatter between them and the lent bytes.
 #[tactic(auto, unfolding(crate::specs::Texts::words_of))]
 fn put_words(answer: Result<Answer, Refusal>, out: &mut [u8], at: usize) -> usize
     requires { at + 15 ≤ length out.old }
@@ -63,6 +67,7 @@ fn put_number(number: u64, out: &mut [u8], at: usize) -> usize
 }
 
 // A number of one digit, and the space after it.
+#[tactic(auto, using(crate::proofs::Placed::one_digit))]
 fn short_text(digit: u8) -> [u8; 2]
     requires { digit ≤ 9 }
     ensures { result ≡ number_text digit }
@@ -72,6 +77,7 @@ fn short_text(digit: u8) -> [u8; 2]
 
 // The number of an answer, and the space after it. Nearly every answer's number has one digit, which
 // costs less than a number of any length.
+#[tactic(auto, using(crate::proofs::Placed::value_few))]
 fn put_answer(number: u32, out: &mut [u8], at: usize) -> usize
     requires { at + 11 ≤ length out.old }
     ensures out_after { out.new ≡ put_in (number_text number) at out.old }
@@ -84,8 +90,9 @@ fn put_answer(number: u32, out: &mut [u8], at: usize) -> usize
     put_number(number as u64, out, at)
 }
 
-// The last two digits of a line's number, and the digits before them, which are written anew once in
-// a hundred lines. No places: they are not written (a number below 100, or of more than ten digits).
+// The last two digits of a line's number, and the digits before them, which are written anew once in a hundred lines.
+// A number below 100, or of more than ten digits, has none of these, and is written whole each time. The digits
+// are an array and how many of it count, since there is no heap here, and eight bytes are copied at once.
 #[derive(Clone, Copy)]
 pub struct LineNumber {
     pub last: u8,
@@ -93,36 +100,36 @@ pub struct LineNumber {
     pub places: usize,
 }
 
-pub fn line_number(number: u64) -> LineNumber
+#[tactic(auto, unfolding(crate::specs::Texts::line_number), using(crate::proofs::Numbered::before_few))]
+pub fn line_number(number: u64) -> Option<LineNumber>
     ensures { result ≡ line_number number }
 {
     let before = number / 100;
-    let last = (number % 100) as u8;
-    let mut digits = [0u8; 8];
-    let mut places = 0;
-    if (0 < before) & (before < 100000000) {
-        places = put_decimal(before, &mut digits, 0);
+    let can_stand = (0 < before) & (before < 100000000);
+    if !can_stand {
+        return None;
     }
-    LineNumber {
-        last,
+    let mut digits = [0u8; 8];
+    let places = put_decimal(before, &mut digits, 0);
+    Some(LineNumber {
+        last: (number % 100) as u8,
         digits,
         places,
-    }
+    })
 }
 
 // The number after that of a line.
-pub fn counted_on(line: LineNumber, number: u64) -> LineNumber
+#[tactic(auto, unfolding(crate::specs::Texts::counted_on))]
+pub fn counted_on(line: Option<LineNumber>, number: u64) -> Option<LineNumber>
     ensures { result ≡ counted_on line number }
 {
-    if line.last < 99 {
-        let digits = line.digits;
-        return LineNumber {
+    match line {
+        Some(line) if line.last < 99 => Some(LineNumber {
             last: line.last + 1,
-            digits,
-            places: line.places,
-        };
+            ..line
+        }),
+        _ => line_number(number),
     }
-    line_number(number)
 }
 
 fn two_digits(n: u8) -> [u8; 2]
@@ -133,19 +140,19 @@ fn two_digits(n: u8) -> [u8; 2]
 
 // The digits of a line's number. All eight bytes go in, since a length that is known costs less than
 // one that is not: what follows covers those that are no digits.
-fn put_line_number(number: u64, line: LineNumber, out: &mut [u8], at: usize) -> usize
+fn put_line_number(number: u64, line: Option<LineNumber>, out: &mut [u8], at: usize) -> usize
     requires { at + 20 ≤ length out.old }
     ensures put_before { PutBefore (digits_of number line) at out.old out.new }
     ensures value { result ≡ at + length (digits_of number line) }
     ensures upper_bound { result ≤ at + 20 }
 {
-    let places = line.places;
-    if (0 < places) & (places <= 8) {
-        let digits = line.digits;
-        put(&digits, out, at);
-        return put(&two_digits(line.last), out, at + places);
+    match line {
+        Some(line) if (0 < line.places) & (line.places <= 8) => {
+            put(&line.digits, out, at);
+            put(&two_digits(line.last), out, at + line.places)
+        }
+        _ => put_decimal(number, out, at),
     }
-    put_decimal(number, out, at)
 }
 
 // What follows a line's number.
@@ -165,7 +172,7 @@ fn put_rest(answer: Result<Answer, Refusal>, out: &mut [u8], at: usize) -> usize
 // and answers where it ends.
 pub fn answer_line(
     number: u64,
-    line: LineNumber,
+    line: Option<LineNumber>,
     answer: Result<Answer, Refusal>,
     out: &mut [u8],
     at: usize,

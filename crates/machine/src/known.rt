@@ -112,6 +112,7 @@ pub fn give_core(sizes: Sizes, c: Core, core: usize, operation: Operation) -> Re
     Ok(c.given(operation))
 }
 
+// The machine's bytes are not the lent slice's length: that the two agree is the rules' first test here.
 #[tactic(auto, unfolding(crate::specs::Known::known_word_refusal))]
 fn word_refusal(bytes: usize, memory: usize, address: GuestAddress) -> Result<(), Refusal>
     ensures { result ≡ known_word_refusal bytes memory address }

@@ -28,7 +28,8 @@ pub enum Answer {
 }
 
 // One access: which core made it (255: the bench), its kind, its address, and the value read,
-// written or not written.
+// written or not written. Core and kind are the archive's numbers, and may be any: of those that none has, the
+// writer's `add_refusal` says that they are refused.
 #[derive(Clone, Copy, PartialEq, Eq, Debug)]
 pub struct Record {
     pub core: u8,
