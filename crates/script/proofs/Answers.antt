@@ -94,19 +94,19 @@ module _ (watch : Bool) (w : Work) (line : List ℕ) (lines : List (List ℕ)) (
       rw (taken, next_text, next_work, append_assoc)
 
 -- Where the answering stands: what is left from here gives what the whole gives, and the line's number has its digits.
-pub record Stands (watch : Bool) (start : Work) (input first : List ℕ) (at : ℕ) (w : Work) (next : ℕ) (out : List ℕ) (to : ℕ) (line : LineNumber) : Type 0 where
+pub record Stands (watch : Bool) (start : Work) (input first : List ℕ) (at : ℕ) (w : Work) (next : ℕ) (out : List ℕ) (to : ℕ) (line : Option LineNumber) : Type 0 where
   pub outcome : answer_lines watch w (lines_in (drop next input)) out to ≡ answer_lines watch start (lines_in input) first at
   pub text : take to out ++ texts_of w (lines_in (drop next input)) ≡ take at first ++ texts_of start (lines_in input)
   pub left : unfinished (drop next input) ≡ unfinished input
   pub within : next ≤ length input
   pub digits : line ≡ line_number w.answered
 
-pub stands_first : (watch : Bool) (start : Work) (input first : List ℕ) (at : ℕ) (line : LineNumber) → line ≡ line_number start.answered
+pub stands_first : (watch : Bool) (start : Work) (input first : List ℕ) (at : ℕ) (line : Option LineNumber) → line ≡ line_number start.answered
     → Stands watch start input first at start 0 first at line
 stands_first watch start input first at line digits = record { outcome = refl; text = refl; left = refl; within = omega arith; digits = digits }
 
 -- What is known when one more line was answered: it goes on, or it ends there for the line's event.
-pub record Turned (watch : Bool) (start : Work) (input first : List ℕ) (at : ℕ) (a : After) (answered next : ℕ) (out : List ℕ) (to : ℕ) (line : LineNumber) : Type 0 where
+pub record Turned (watch : Bool) (start : Work) (input first : List ℕ) (at : ℕ) (a : After) (answered next : ℕ) (out : List ℕ) (to : ℕ) (line : Option LineNumber) : Type 0 where
   pub goes_on : is_some (seen_of watch a.ran.answer a.ran.made) ≡ false → Stands watch start input first at (left_work a answered) next out to line
   pub ends : (event : Option Event) → event ≡ seen_of watch a.ran.answer a.ran.made → is_some event ≡ true
       → stopped (left_work a answered) (lines_in (drop next input)) out to event ≡ answer_lines watch start (lines_in input) first at
@@ -115,12 +115,12 @@ pub record Turned (watch : Bool) (start : Work) (input first : List ℕ) (at : �
   pub within : next ≤ length input
 
 -- one more line
-module _ (watch : Bool) (start : Work) (input first : List ℕ) (at : ℕ) (w : Work) (next : ℕ) (out : List ℕ) (to : ℕ) (line : LineNumber)
+module _ (watch : Bool) (start : Work) (input first : List ℕ) (at : ℕ) (w : Work) (next : ℕ) (out : List ℕ) (to : ℕ) (line : Option LineNumber)
     (stands : Stands watch start input first at w next out to line) (room : can_answer (length out) to w.answered ≡ true)
     (n : ℕ) (found : n ≡ length (first_line (drop next input))) (more : n + 1 ≤ length (drop next input))
     (command : Option Command) (reads : command ≡ command_of (handed (first_line (drop next input))))
     (a : After) (runs : a ≡ run_command w.session w.memory w.owners w.holders command)
-    (line₁ : LineNumber) (counted : line₁ ≡ counted_on line (w.answered + 1)) (out₁ : List ℕ) (to₁ : ℕ)
+    (line₁ : Option LineNumber) (counted : line₁ ≡ counted_on line (w.answered + 1)) (out₁ : List ℕ) (to₁ : ℕ)
     (put : out₁ ≡ line_put (digits_of (w.answered + 1) line₁) a.ran.answer out to) (ends : to₁ ≡ line_end (digits_of (w.answered + 1) line₁) a.ran.answer (length out) to)
     (fits : to₁ ≤ to + 48) where
   abbrev this : List ℕ
@@ -136,13 +136,13 @@ module _ (watch : Bool) (start : Work) (input first : List ℕ) (at : ℕ) (w : 
   the_lines = next_line (drop next input) n found more ∙ ap (λ (l : List ℕ). this ∷ lines_in l) rest
 
   digits₁ : line₁ ≡ line_number (w.answered + 1)
-  digits₁ = counted ∙ ap (λ (l : LineNumber). counted_on l (w.answered + 1)) stands.digits ∙ counts_on w.answered
+  digits₁ = counted ∙ ap (λ (l : Option LineNumber). counted_on l (w.answered + 1)) stands.digits ∙ counts_on w.answered
 
   put₁ : out₁ ≡ answer_put (w.answered + 1) a.ran.answer out to
-  put₁ = put ∙ ap (λ (l : LineNumber). line_put (digits_of (w.answered + 1) l) a.ran.answer out to) digits₁ ∙ line_put_lem (w.answered + 1) a.ran.answer out to
+  put₁ = put ∙ ap (λ (l : Option LineNumber). line_put (digits_of (w.answered + 1) l) a.ran.answer out to) digits₁ ∙ line_put_lem (w.answered + 1) a.ran.answer out to
 
   ends₁ : to₁ ≡ answer_end (w.answered + 1) a.ran.answer (length out) to
-  ends₁ = ends ∙ ap (λ (l : LineNumber). line_end (digits_of (w.answered + 1) l) a.ran.answer (length out) to) digits₁ ∙ line_end_lem (w.answered + 1) a.ran.answer (length out) to
+  ends₁ = ends ∙ ap (λ (l : Option LineNumber). line_end (digits_of (w.answered + 1) l) a.ran.answer (length out) to) digits₁ ∙ line_end_lem (w.answered + 1) a.ran.answer (length out) to
 
   fits₁ : to₁ ≤ to + answer_room
   fits₁ = omega arith
@@ -183,13 +183,13 @@ module _ (watch : Bool) (start : Work) (input first : List ℕ) (at : ℕ) (w : 
       }
 
 -- the same, where the number of lines answered is known otherwise
-pub turned_to : (watch : Bool) (start : Work) (input first : List ℕ) (at : ℕ) (w : Work) (next : ℕ) (out : List ℕ) (to : ℕ) (line : LineNumber)
+pub turned_to : (watch : Bool) (start : Work) (input first : List ℕ) (at : ℕ) (w : Work) (next : ℕ) (out : List ℕ) (to : ℕ) (line : Option LineNumber)
     → Stands watch start input first at w next out to line → can_answer (length out) to w.answered ≡ true
     → (n : ℕ) → n ≡ length (first_line (drop next input)) → n + 1 ≤ length (drop next input)
     → (command : Option Command) → command ≡ command_of (handed (first_line (drop next input)))
     → (a : After) → a ≡ run_command w.session w.memory w.owners w.holders command
     → (count : ℕ) → w.answered + 1 ≡ count
-    → (line₁ : LineNumber) → line₁ ≡ counted_on line count → (out₁ : List ℕ) (to₁ : ℕ)
+    → (line₁ : Option LineNumber) → line₁ ≡ counted_on line count → (out₁ : List ℕ) (to₁ : ℕ)
     → out₁ ≡ line_put (digits_of count line₁) a.ran.answer out to → to₁ ≡ line_end (digits_of count line₁) a.ran.answer (length out) to → to₁ ≤ to + 48
     → Turned watch start input first at a count (next + (n + 1)) out₁ to₁ line₁
 turned_to watch start input first at w next out to line stands room n found more command reads a runs count counts line₁ counted out₁ to₁ put ends fits =
