@@ -34,7 +34,8 @@ pub fn give_in_place(
     Ok(Answer::Taken)
 }
 
-// One micro-step of one core, which leaves the machine as `step` hands it back.
+// One micro-step of one core, which leaves the machine as `step` hands it back. The three buffers stay three
+// parameters, here and in `step`: a clause on a struct of three `&mut` says `lent.exit.1.1.0.now` for `holders.new`.
 #[tactic(auto, unfolding(rules::specs::Calls::step_of, rules::specs::Calls::step_refusal))]
 pub fn step_in_place(
     machine: &mut Machine,
