@@ -2,7 +2,7 @@
 ghost use Rattle.std.specs.Prelude.{◌≡◌, length};
 ghost use Rattle.rules.specs.Refusals.{number_in};
 ghost use Rattle.rules.specs.Calls.{outcome, give_refusal, give_of, step_refusal, step_of};
-ghost use Rattle.machine.specs.Place.{given_at, called_at};
+ghost use Rattle.machine.specs.Place.{given_at, called_at, refused_step};
 
 use crate::known::{give_core, step_core};
 use crate::ranges;
@@ -14,6 +14,18 @@ use rules::{Answer, Called, Machine, Operation, Record, Refusal};
 pub struct Stepped {
     pub answer: Result<Answer, Refusal>,
     pub made: Option<Record>,
+}
+
+impl Stepped {
+    // A refusal makes no record.
+    pub fn refused(refusal: Refusal) -> Stepped
+        ensures { result ≡ refused_step refusal }
+    {
+        Stepped {
+            answer: Err(refusal),
+            made: None,
+        }
+    }
 }
 
 // An operation for an idle core, which leaves the machine as `give` hands it back.
@@ -48,10 +60,7 @@ pub fn step_in_place(
     ensures outcome { outcome (called_at result machine.new) memory.new owners.new holders.new ≡ step_of machine.old memory.old owners.old holders.old core }
 {
     if !ranges::in_ranges(machine) {
-        return Stepped {
-            answer: Err(Refusal::OutOfRange),
-            made: None,
-        };
+        return Stepped::refused(Refusal::OutOfRange);
     }
     let at = core % 8;
     let sizes = Sizes::of(machine);
@@ -63,10 +72,7 @@ pub fn step_in_place(
                 made: did.made,
             }
         }
-        Err(refusal) => Stepped {
-            answer: Err(refusal),
-            made: None,
-        },
+        Err(refusal) => Stepped::refused(refusal),
     }
 }
 
