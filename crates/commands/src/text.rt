@@ -19,7 +19,8 @@ use crate::bytes::put;
 use crate::decimal::put_decimal;
 use machine::{Answer, Refusal, number_of};
 
-// `out` and `at` stay two parameters: a cursor of the two would be taken apart again at each `put`, and by the callers.
+// `out` and `at` stay two parameters: the public `answer_line` takes the two, its clauses `text`, `end` and `fits`
+// speak of them, and lent bytes of any length must do.
 
 // A word, and the value after it.
 #[tactic(auto, using(crate::proofs::Placed::value_few, crate::proofs::Placed::put_both))]
