@@ -12,7 +12,8 @@ pub(crate) struct Field {
     pub next: Option<usize>,
 }
 
-// The number that a field says, if it says one.
+// The number that a field says, if it says one. No `parse`: it takes a `+` and needless zeros, which the rules'
+// numbers don't have, and wants the bytes as a `str` first.
 #[tactic(auto, using(crate::proofs::Digits::nothing, crate::proofs::Digits::needless, crate::proofs::Digits::no_digit, crate::proofs::Digits::large, crate::proofs::Digits::reading_ends))]
 fn number_in(field: &[u8]) -> Option<u32>
     ensures { result ≡ number_in field.now }
@@ -59,7 +60,7 @@ pub(crate) fn field_of(line: &[u8]) -> Field
     }
 }
 
-// How many digits a number has.
+// How many digits a number has: `put_decimal` must know it, to begin at the last.
 #[tactic(auto, using(crate::proofs::Written::digits_by_tens, crate::proofs::Written::one_in_all))]
 fn count_digits(n: u64) -> usize
     ensures value { result ≡ length (decimal n) }
@@ -71,7 +72,8 @@ fn count_digits(n: u64) -> usize
     }
 }
 
-// Writes a number's digits in at a place, the last first, and answers where they end.
+// Writes a number's digits in at a place, the last first, and answers where they end. No `Display`: they go straight
+// to their place in the lent bytes, as `put_in` says, with no formatter and its writer between.
 pub(crate) fn put_decimal(number: u64, out: &mut [u8], at: usize) -> usize
     requires { at + length (decimal number) ≤ length out.old }
     ensures out_after { out.new ≡ put_in (decimal number) at out.old }

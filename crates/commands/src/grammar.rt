@@ -38,7 +38,8 @@ pub enum Numbers {
     Three(u32, u32, u32),
 }
 
-// The numbers that are the whole of some bytes.
+// The numbers that are the whole of some bytes. No `split`: each field is cut off as in `give_in`, which hands on whole
+// what follows it, and as `numbers_of` says it. An empty last field counts too, and is no number.
 #[tactic(auto, using(crate::proofs::Lines::numbers_none, crate::proofs::Lines::numbers_one))]
 fn numbers_in(bytes: &[u8]) -> Option<Numbers>
     ensures { result ≡ numbers_of bytes.now }
