@@ -2,7 +2,6 @@
 ghost use Rattle.std.specs.Prelude.{◌≡◌, ◌+◌, ◌<◌, ◌≤◌, IfSome, length};
 ghost use Rattle.std.specs.List.{position};
 ghost use Rattle.commands.specs.Bytes.{is_space, put_in};
-ghost use Rattle.commands.specs.Texts.{decimal_put, decimal_end};
 ghost use Rattle.commands.specs.Decimal.{is_digit, number_in, field_of, decimal};
 
 // A field read as a number, and where the next field begins, if one follows.
@@ -87,17 +86,4 @@ pub(crate) fn put_decimal(number: u64, out: &mut [u8], at: usize) -> usize
     }
     out[at] = b'0' + left as u8;
     end
-}
-
-// Writes a number's digits in at a place, where there is room for them, and answers where they end.
-pub fn write_decimal(number: u64, out: &mut [u8], at: usize) -> Option<usize>
-    ensures out_after { out.new ≡ decimal_put number out.old at }
-    ensures end { result ≡ decimal_end number (length out.old) at }
-{
-    let digits = count_digits(number);
-    let room = digits <= out.len() && at <= out.len() - digits;
-    if !room {
-        return None;
-    }
-    Some(put_decimal(number, out, at))
 }
