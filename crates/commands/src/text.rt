@@ -73,7 +73,7 @@ fn short_text(digit: u8) -> [u8; 2]
     requires { digit ≤ 9 }
     ensures { result ≡ number_text digit }
 {
-    [48 + digit, 32]
+    [b'0' + digit, b' ']
 }
 
 // The number of an answer, and the space after it. Nearly every answer's number has one digit, which
@@ -136,11 +136,12 @@ pub fn counted_on(line: Option<LineNumber>, number: u64) -> Option<LineNumber>
 fn two_digits(n: u8) -> [u8; 2]
     ensures { result ≡ two_digits n }
 {
-    [48 + n / 10, 48 + n % 10]
+    [b'0' + n / 10, b'0' + n % 10]
 }
 
 // The digits of a line's number. All eight bytes go in, since a length that is known costs less than
-// one that is not: what follows covers those that are no digits.
+// one that is not: what follows covers those that are no digits. `places` is tested beside the Option, since the fields
+// are public and any value may come: `digits_of` says the same.
 fn put_line_number(number: u64, line: Option<LineNumber>, out: &mut [u8], at: usize) -> usize
     requires { at + 20 ≤ length out.old }
     ensures put_before { PutBefore (digits_of number line) at out.old out.new }
