@@ -29,7 +29,7 @@ fn number_in(field: &[u8]) -> Option<u32>
         if !b.is_ascii_digit() {
             return None;
         }
-        value = value.checked_mul(10)?.checked_add((*b - b'0') as u32)?;
+        value = value.checked_mul(10)?.checked_add(u32::from(*b - b'0'))?;
     }
     Some(value)
 }

@@ -175,7 +175,7 @@ pub fn short_step(bytes: &[u8]) -> Option<u32>
 {
     match bytes.strip_prefix(b"step ")? {
         [digit, newline, ..] if digit.is_ascii_digit() & (*newline == b'\n') => {
-            Some((*digit - b'0') as u32)
+            Some(u32::from(*digit - b'0'))
         }
         _ => None,
     }

@@ -31,7 +31,7 @@ fn put_valued(word: &[u8], value: u32, out: &mut [u8], at: usize) -> usize
     ensures upper_bound { result ≤ at + length word.now + 10 }
 {
     let to = put(word, out, at);
-    put_decimal(value as u64, out, to)
+    put_decimal(u64::from(value), out, to)
 }
 
 // No `Display`: it would have these arms too, and a formatter between them and the lent bytes.
@@ -88,7 +88,7 @@ fn put_answer(number: u32, out: &mut [u8], at: usize) -> usize
     if number <= 9 {
         return put(&short_text(number as u8), out, at);
     }
-    put_number(number as u64, out, at)
+    put_number(u64::from(number), out, at)
 }
 
 // The last two digits of a line's number, and the digits before them, which are written anew once in a hundred lines.
