@@ -1,6 +1,5 @@
--- What a line of script promises, beside what each call's contract says of it. The proofs are in proofs/Handed, ReadBack, ShortSteps, OneLine, Answers, Numbered, Written and Begun, under these names: FirstBytesDecide is proved by first_bytes_decide.
+-- What a line of script promises, beside what each call's contract says of it. The proofs are in proofs/Handed, ReadBack, ShortSteps, OneLine, Answers, Numbered and Begun, under these names: FirstBytesDecide is proved by first_bytes_decide.
 use Rattle.std.specs.Prelude.{ℕ, ◌+◌, ◌≤◌, ◌<◌, ◌≡◌, Bool, true, false, Option, Some, None, Result, Ok, List, [], ◌∷◌, ◌++◌, length, take, drop, replicate}
-use Rattle.std.specs.Fmt as library
 use Rattle.rules.specs.Refusals.{number_in}
 use Rattle.rules.specs.Answers.{values_of}
 use Rattle.rules.specs.Calls.{all_idle}
@@ -90,10 +89,6 @@ DigitsAre = (number : ℕ) → digits_of number (line_number number) ≡ decimal
 
 abbrev pub CountsOn : Type 0
 CountsOn = (number : ℕ) → counted_on (line_number number) (number + 1) ≡ line_number (number + 1)
-
--- a number of 64 bits is written as the library writes it
-abbrev pub WrittenAsTheLibrary : Type 0
-WrittenAsTheLibrary = (number : ℕ) → number < 18446744073709551616 → decimal number ≡ library.decimal number
 
 -- a machine, its memory and its table are as they were, and nothing was made
 pub record Kept (session : Session) (memory owners holders : List ℕ) (a : After) : Type 0 where
