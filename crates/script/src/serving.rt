@@ -59,6 +59,7 @@ impl Serving<'_> {
     // Answers all whole lines of a piece, writes the answers out, and keeps what is left.
     fn serve_piece(&mut self, rt: &HostRuntime, input: &mut Input) -> Result<(), Failure<'static>> {
         let mut from = 0;
+        // Turns are counted: nothing says that an input ends, and every loop has to.
         for _ in 0..u64::MAX {
             match self.answer_some(rt, &input.bytes[from..input.end])? {
                 ControlFlow::Continue(count) => from += count,
