@@ -59,7 +59,7 @@ impl Serving<'_> {
     // Answers all whole lines of a piece, writes the answers out, and keeps what is left.
     fn serve_piece(&mut self, rt: &HostRuntime, input: &mut Input) -> Result<(), Failure<'static>> {
         let mut from = 0;
-        // Turns are counted: nothing says that an input ends, and every loop has to.
+        // Turns are counted, as every loop has to end: one that only writes out brings `from` no further.
         for _ in 0..u64::MAX {
             match self.answer_some(rt, &input.bytes[from..input.end])? {
                 ControlFlow::Continue(count) => from += count,
@@ -88,6 +88,7 @@ impl Serving<'_> {
     // Answers the input to its end, while a line can have a number.
     fn serve_all(&mut self, rt: &HostRuntime) -> Result<(), Failure<'static>> {
         let mut input = Input::new();
+        // Nothing says that an input ends.
         for _ in 0..u64::MAX {
             input.read(rt)?;
             if input.end == input.held {
