@@ -80,7 +80,7 @@ impl Serving<'_> {
         if held == 0 {
             return Ok(());
         }
-        input.bytes[held] = 10;
+        input.bytes[held] = b'\n';
         input.end = held + 1;
         self.serve_piece(rt, input)
     }
