@@ -26,7 +26,7 @@ fn refusal(error: FillError) -> io::Error {
     }
 }
 
-// `archive FILE` or `records FILE`. The library's `arg` fills a buffer and answers its length, so the two stand apart.
+// `archive FILE` or `records FILE`. A length stands beside each buffer: `arg` fills one, and answers how far.
 // Not by `env::args`, which refuses what is no text and has no longest argument: what the program does may not change.
 fn with_file(rt: &HostRuntime) {
     let mut mode = [0; PATH_ROOM];
