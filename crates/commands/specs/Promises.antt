@@ -78,10 +78,10 @@ abbrev pub AllSmall : List ℕ → Type 0
 AllSmall [] = Unit
 AllSmall (n ∷ s) = Small n × AllSmall s
 
--- the room for an answer line is enough for each that the code can write: a u64 line number, a u32 answer number, u32 values
+-- the room for an answer line is enough for each that the code can write: a u64 line number, any answer's number, u32 values
 abbrev pub AnswerFits : Type 0
 AnswerFits =
-    (number : ℕ) (answer : Result Answer Refusal) → number < 18446744073709551616 → Small (number_in answer) → AllSmall (values_of answer) → length (answer_line number answer) ≤ line_room
+    (number : ℕ) (answer : Result Answer Refusal) → number < 18446744073709551616 → AllSmall (values_of answer) → length (answer_line number answer) ≤ line_room
 
 -- a line's number is written in its own digits, which are kept from a line to the next
 abbrev pub DigitsAre : Type 0

@@ -12,7 +12,8 @@ pub struct Session {
     pub machine: Option<Machine>,
 }
 
-// What a line answers, the record that it makes, if it makes one, and what it leaves.
+// What a line answers, the record that it makes, if it makes one, and what it leaves: beside `Called` a struct of its
+// own, since one over both would name neither the machine nor the session that the clauses speak of.
 #[derive(Clone, Copy)]
 pub struct Ran {
     pub answer: Result<Answer, Refusal>,

@@ -158,10 +158,7 @@ fn turn(
                 made: did.made,
             }
         }
-        Err(refusal) => Stepped {
-            answer: Err(refusal),
-            made: None,
-        },
+        Err(refusal) => Stepped::refused(refusal),
     }
 }
 
