@@ -4,7 +4,8 @@ use crate::say::line;
 use archive::{check_archive, check_block, record_of_number, turn_through};
 use std::io;
 
-// The records of a block, in turn, and past the last. 32 are asked for.
+// The records of a block, in turn, and past the last. 32 are asked for. No Reader of its own: it tests turn_through,
+// the call with plain parameters.
 fn places(rt: &HostRuntime, block: &[u8; 512], number: u32) -> io::Result<()> {
     let mut place = 0;
     for _ in 0..32 {

@@ -25,8 +25,8 @@ fn sample(i: u32) -> Record
     made(core, kind, address, u32::MAX - i * 40000001)
 }
 
-// What a call of the writer answers; the writer that it leaves goes on.
-fn told(rt: &HostRuntime, call: &str, done: Written) -> io::Result<Writer> {
+// Says what a call of the writer answers; the writer that it leaves goes on.
+fn say_written(rt: &HostRuntime, call: &str, done: Written) -> io::Result<Writer> {
     let number = number_of(&done.answer);
     let word = match done.answer {
         Ok(Put::Nothing) => "nothing",
@@ -38,11 +38,11 @@ fn told(rt: &HostRuntime, call: &str, done: Written) -> io::Result<Writer> {
 }
 
 fn add(rt: &HostRuntime, w: Writer, block: &mut [u8], one: Record) -> io::Result<Writer> {
-    told(rt, "add", w.add(block, one))
+    say_written(rt, "add", w.add(block, one))
 }
 
 fn close(rt: &HostRuntime, w: Writer, block: &mut [u8]) -> io::Result<Writer> {
-    told(rt, "close", w.close(block))
+    say_written(rt, "close", w.close(block))
 }
 
 // Adds the record of a step, with the archive's next block lent to it.

@@ -13,7 +13,8 @@ fn low(x: usize) -> u32
     (x % 4294967296) as u32
 }
 
-// The word says which answer it is, and the value stands beside it. The words are numbers for the C interface, bench/malthobre.h.
+// The word says which answer it is, and the value stands beside it. The words are numbers for the C interface,
+// bench/malthobre.h.
 fn done(word: u8, value: u32) -> u64
     ensures { result ≡ done word value }
 {
@@ -57,9 +58,10 @@ impl Packed for ArchiveRefusal {
     ghost packs = { packed_refusal };
 
     fn packed(self) -> u64 {
+        let number = self.number();
         match self {
-            ArchiveRefusal::Length => Refusal::BlockLength.packed(),
-            ArchiveRefusal::Block { index, refusal } => refused_at(refusal.number(), index),
+            ArchiveRefusal::Length => u64::from(number),
+            ArchiveRefusal::Block { index, .. } => refused_at(number, index),
         }
     }
 }

@@ -6,7 +6,7 @@ use mathlib.Core.List.{List, [], ◌∷◌, ◌++◌, append_assoc}
 use Prim.Native.Nat.{ℕ, ◌≤◌, ◌<◌}
 use native.Mathlib.Omega.{arith}
 use lib.ListN.{length, length-append}
-use Rattle.rules.specs.Refusals.{number_in}
+use Rattle.rules.specs.Refusals.{refusal_number, number_in}
 use Rattle.rules.specs.Answers.{values_of}
 use Rattle.rules.specs.declared.answers.Answer.{Answer}
 use Rattle.rules.specs.declared.answers.Answer.TheVariants.{Ready, Taken, Moved, Waits, Load, Ll, Store, Sc, Poked, Word}
@@ -62,10 +62,18 @@ words_few (Ok (Sc v)) h = valued_few sc_text v (omega arith) h.0
 words_few (Ok Poked) h = omega arith
 words_few (Ok (Word v)) h = valued_few word_text v (omega arith) h.0
 
+-- a refusal's number is one of eighteen
+numbers_small : (answer : Result Answer Refusal) → number_in answer < 19
+numbers_small (Ok answer) = omega arith
+numbers_small (Err refusal) = small refusal
+  where
+    small : (r : Refusal) → refusal_number r < 19
+    small r = grind arith
+
 pub answer_fits : AnswerFits
-answer_fits number answer l k h =
+answer_fits number answer l h =
     let p = decimal_few number 19 (omega (arith, l)) in
-    let q = decimal_few (number_in answer) 9 (omega (arith, k)) in
+    let q = decimal_few (number_in answer) 9 (omega (arith, numbers_small answer)) in
     let r = words_few answer h in
     let end = words_of answer ++ newline ∷ [] in
     let last : length end ≤ 16 = rw (length-append (words_of answer) (newline ∷ [])) (omega (arith, r)) in

@@ -12,16 +12,17 @@ use native.Mathlib.Omega.{arith}
 use lib.ListN.{length, get_or, take, drop}
 use lib.Seq.{get_or-drop}
 use lib.Dec.{leb, eqb}
-use borrow.Author.Tests.{eqb-true, eq-eqb, le-leb, lt-leb, le-ltb}
+use borrow.Author.Tests.{eqb-true, eq-eqb, le-leb, lt-leb}
 use Rattle.rules.proofs.Bools.{and₂, and₃}
 use Rattle.commands.specs.Bytes.{begins}
-use Rattle.commands.specs.Decimal.{is_digit, digits_before, decimal}
+use Rattle.commands.specs.Decimal.{is_digit}
 use Rattle.commands.specs.Grammar.{step_word, command_of, begins_short_step, short_step, line_of}
 use Rattle.commands.specs.Promises.{ShortStep, ShortSteps}
 use Rattle.commands.specs.Texts.{newline}
 use Rattle.commands.specs.declared.grammar.Command.TheVariants.{Step}
 use Rattle.commands.proofs.Digits.{digit_bounds}
 use Rattle.commands.proofs.Lines.{tested}
+use Rattle.commands.proofs.Placed.{one_digit}
 use Rattle.commands.proofs.ReadBack.{round_trip}
 
 -- what the test of the bytes gives
@@ -72,14 +73,9 @@ module _ (s t : List ℕ) (there : pointwise eqb (take 5 s) step_word ≡ true) 
     pub short_so : is_digit (get_or t 0 0) ≡ true → get_or t 1 0 ≡ 10 → Some (get_or t 0 0 - 48) ≡ short_step s
     short_so d n = sym (is_short ∙ rw (d, eq-eqb (get_or t 1 0) 10 n))
 
--- a digit is a number, written
-one_written : (d : ℕ) → d ≤ 9 → decimal d ≡ (48 + d) ∷ []
-unfolding decimal digits_before
-one_written d l = rw (le-ltb 9 d l)
-
 step_read : (d : ℕ) → d ≤ 9 → command_of (step_word ++ (48 + d) ∷ []) ≡ Some (Step d)
 unfolding line_of
-step_read d l = ap (λ (s : List ℕ). command_of (step_word ++ s)) (sym (one_written d l)) ∙ round_trip (Step d) (omega arith)
+step_read d l = ap (λ (s : List ℕ). command_of (step_word ++ s)) (sym (one_digit d l)) ∙ round_trip (Step d) (omega arith)
 
 pub short_steps : ShortSteps
 unfolding short_step

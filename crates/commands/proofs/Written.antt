@@ -1,7 +1,5 @@
 -- Writing a number's digits, the last one first.
 -- Assumes nothing.
-use Rattle.std.specs.Fmt as library
-use Rattle.std.proofs.lemmas.Fmt.{decimal_digit, decimal_step}
 use Rattle.std.proofs.Common.{if◌then◌else◌}
 use mathlib.Core.Path.{◌≡◌, refl, ap, ◌∙◌, sym}
 use mathlib.Core.Bool.{Bool, true, false}
@@ -16,7 +14,6 @@ use lib.Dec.{ltb, leb}
 use borrow.Author.Tests.{lt-ltb, ltb-true, leb-true, leb-false}
 use Rattle.commands.specs.Bytes.{put_in}
 use Rattle.commands.specs.Decimal.{digits_before, decimal}
-use Rattle.commands.specs.Promises.{WrittenAsTheLibrary}
 use Rattle.commands.proofs.Placed.{one_digit}
 
 -- more turns than digits change nothing
@@ -72,20 +69,6 @@ digits_by_tens (suc k) n low high =
     let rest = digits_by_tens k (n / 10) (omega (arith, p, low)) (omega (arith, p, high)) in
     let more = one_more n (omega (arith, p, low, high)) in
     omega (arith, rest, more)
-
--- as the library writes it
-pub written_as_the_library : WrittenAsTheLibrary
-written_as_the_library number small = go (suc number) number (omega arith) small
-  where
-    go : (f n : ℕ) → n < f → n < 18446744073709551616 → decimal n ≡ library.decimal n
-    go zero n l h = absurd (omega arith)
-    go (suc f) n l h = by (leb n 9) refl (λ k. go f (n / 10) (omega arith) (omega arith))
-      where
-        by : (t : Bool) → leb n 9 ≡ t → (9 < n → decimal (n / 10) ≡ library.decimal (n / 10)) → decimal n ≡ library.decimal n
-        by true e k = let few = leb-true n 9 e in one_digit n few ∙ sym (decimal_digit n (omega arith))
-        by false e k =
-            let many = leb-false n 9 e in
-            decimal_on n many ∙ ap (λ (s : List ℕ). s ++ (48 + n % 10) ∷ []) (k many) ∙ sym (decimal_step n (omega arith) (omega arith))
 
 -- a text whose last byte stands in its place already
 put_last : (s : List ℕ) (x at : ℕ) (out : List ℕ) → at + length s < length out → put_in (s ++ x ∷ []) at out ≡ put_in s at (set out (at + length s) x)

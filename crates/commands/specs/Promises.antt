@@ -1,6 +1,5 @@
--- What a line of script promises, beside what each call's contract says of it. The proofs are in proofs/Handed, ReadBack, ShortSteps, OneLine, Answers, Numbered, Written and Begun, under these names: FirstBytesDecide is proved by first_bytes_decide.
+-- What a line of script promises, beside what each call's contract says of it. The proofs are in proofs/Handed, ReadBack, ShortSteps, OneLine, Answers, Numbered and Begun, under these names: FirstBytesDecide is proved by first_bytes_decide.
 use Rattle.std.specs.Prelude.{ℕ, ◌+◌, ◌≤◌, ◌<◌, ◌≡◌, Bool, true, false, Option, Some, None, Result, Ok, List, [], ◌∷◌, ◌++◌, length, take, drop, replicate}
-use Rattle.std.specs.Fmt as library
 use Rattle.rules.specs.Refusals.{number_in}
 use Rattle.rules.specs.Answers.{values_of}
 use Rattle.rules.specs.Calls.{all_idle}
@@ -79,10 +78,10 @@ abbrev pub AllSmall : List ℕ → Type 0
 AllSmall [] = Unit
 AllSmall (n ∷ s) = Small n × AllSmall s
 
--- the room for an answer line is enough for each that the code can write: a u64 line number, a u32 answer number, u32 values
+-- the room for an answer line is enough for each that the code can write: a u64 line number, any answer's number, u32 values
 abbrev pub AnswerFits : Type 0
 AnswerFits =
-    (number : ℕ) (answer : Result Answer Refusal) → number < 18446744073709551616 → Small (number_in answer) → AllSmall (values_of answer) → length (answer_line number answer) ≤ line_room
+    (number : ℕ) (answer : Result Answer Refusal) → number < 18446744073709551616 → AllSmall (values_of answer) → length (answer_line number answer) ≤ line_room
 
 -- a line's number is written in its own digits, which are kept from a line to the next
 abbrev pub DigitsAre : Type 0
@@ -90,10 +89,6 @@ DigitsAre = (number : ℕ) → digits_of number (line_number number) ≡ decimal
 
 abbrev pub CountsOn : Type 0
 CountsOn = (number : ℕ) → counted_on (line_number number) (number + 1) ≡ line_number (number + 1)
-
--- a number of 64 bits is written as the library writes it
-abbrev pub WrittenAsTheLibrary : Type 0
-WrittenAsTheLibrary = (number : ℕ) → number < 18446744073709551616 → decimal number ≡ library.decimal number
 
 -- a machine, its memory and its table are as they were, and nothing was made
 pub record Kept (session : Session) (memory owners holders : List ℕ) (a : After) : Type 0 where

@@ -55,13 +55,6 @@ words_of (Ok (Sc v)) = sc_text ++ decimal v
 words_of (Ok Poked) = poked_text
 words_of (Ok (Word v)) = word_text ++ decimal v
 
--- a number's digits put in at a place, where there is room for them, and where they end
-abbrev pub decimal_put : ℕ → List ℕ → ℕ → List ℕ
-decimal_put number out at = if leb (at + length (decimal number)) (length out) then put_in (decimal number) at out else out
-
-abbrev pub decimal_end : ℕ → ℕ → ℕ → Option ℕ
-decimal_end number lent at = if leb (at + length (decimal number)) lent then Some (at + length (decimal number)) else None
-
 abbrev pub newline : ℕ
 newline = 10
 

@@ -2,7 +2,6 @@
 ghost use Rattle.std.specs.Prelude.{◌≡◌, ◌+◌, ◌<◌, ◌≤◌, IfSome, length};
 ghost use Rattle.std.specs.List.{position};
 ghost use Rattle.commands.specs.Bytes.{is_space, put_in};
-ghost use Rattle.commands.specs.Texts.{decimal_put, decimal_end};
 ghost use Rattle.commands.specs.Decimal.{is_digit, number_in, field_of, decimal};
 
 // A field read as a number, and where the next field begins, if one follows.
@@ -12,7 +11,8 @@ pub(crate) struct Field {
     pub next: Option<usize>,
 }
 
-// The number that a field says, if it says one.
+// The number that a field says, if it says one. No `parse`: it takes a `+` and needless zeros, which the rules'
+// numbers don't have, and wants the bytes as a `str` first.
 #[tactic(auto, using(crate::proofs::Digits::nothing, crate::proofs::Digits::needless, crate::proofs::Digits::no_digit, crate::proofs::Digits::large, crate::proofs::Digits::reading_ends))]
 fn number_in(field: &[u8]) -> Option<u32>
     ensures { result ≡ number_in field.now }
@@ -29,7 +29,7 @@ fn number_in(field: &[u8]) -> Option<u32>
         if !b.is_ascii_digit() {
             return None;
         }
-        value = value.checked_mul(10)?.checked_add((*b - b'0') as u32)?;
+        value = value.checked_mul(10)?.checked_add(u32::from(*b - b'0'))?;
     }
     Some(value)
 }
@@ -59,7 +59,7 @@ pub(crate) fn field_of(line: &[u8]) -> Field
     }
 }
 
-// How many digits a number has.
+// How many digits a number has: `put_decimal` must know it, to begin at the last.
 #[tactic(auto, using(crate::proofs::Written::digits_by_tens, crate::proofs::Written::one_in_all))]
 fn count_digits(n: u64) -> usize
     ensures value { result ≡ length (decimal n) }
@@ -71,7 +71,8 @@ fn count_digits(n: u64) -> usize
     }
 }
 
-// Writes a number's digits in at a place, the last first, and answers where they end.
+// Writes a number's digits in at a place, the last first, and answers where they end. No `Display`: they go straight
+// to their place in the lent bytes, as `put_in` says, with no formatter and its writer between.
 pub(crate) fn put_decimal(number: u64, out: &mut [u8], at: usize) -> usize
     requires { at + length (decimal number) ≤ length out.old }
     ensures out_after { out.new ≡ put_in (decimal number) at out.old }
@@ -85,17 +86,4 @@ pub(crate) fn put_decimal(number: u64, out: &mut [u8], at: usize) -> usize
     }
     out[at] = b'0' + left as u8;
     end
-}
-
-// Writes a number's digits in at a place, where there is room for them, and answers where they end.
-pub fn write_decimal(number: u64, out: &mut [u8], at: usize) -> Option<usize>
-    ensures out_after { out.new ≡ decimal_put number out.old at }
-    ensures end { result ≡ decimal_end number (length out.old) at }
-{
-    let digits = count_digits(number);
-    let room = digits <= out.len() && at <= out.len() - digits;
-    if !room {
-        return None;
-    }
-    Some(put_decimal(number, out, at))
 }

@@ -12,7 +12,8 @@ pub struct Session {
     pub machine: Option<Machine>,
 }
 
-// What a line answers, the record that it makes, if it makes one, and what it leaves.
+// What a line answers, the record that it makes, if it makes one, and what it leaves: beside `Called` a struct of its
+// own, since one over both would name neither the machine nor the session that the clauses speak of.
 #[derive(Clone, Copy)]
 pub struct Ran {
     pub answer: Result<Answer, Refusal>,
@@ -69,10 +70,8 @@ pub fn no_machine() -> Session
     Session { machine: None }
 }
 
-// Memory, owners and holders stay three parameters: a struct of three borrows would be taken apart at each call of
-// the machine, which uses the first bytes of each.
-
-// `new CORES BYTES ENTRIES`
+// `new CORES BYTES ENTRIES`. Memory, owners and holders stay three parameters here and below: of a struct of three
+// borrows a clause would read `lent.exit.1.1.0.now` where it says `holders.new` (tried in machine).
 #[tactic(auto, unfolding(crate::specs::Effect::new_of), using(crate::proofs::Begun::after_new))]
 fn begin(
     session: Session,

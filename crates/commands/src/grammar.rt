@@ -38,7 +38,8 @@ pub enum Numbers {
     Three(u32, u32, u32),
 }
 
-// The numbers that are the whole of some bytes.
+// The numbers that are the whole of some bytes. No `split`: each field is cut off as in `give_in`, which hands on whole
+// what follows it, and as `numbers_of` says it. An empty last field counts too, and is no number.
 #[tactic(auto, using(crate::proofs::Lines::numbers_none, crate::proofs::Lines::numbers_one))]
 fn numbers_in(bytes: &[u8]) -> Option<Numbers>
     ensures { result ≡ numbers_of bytes.now }
@@ -174,7 +175,7 @@ pub fn short_step(bytes: &[u8]) -> Option<u32>
 {
     match bytes.strip_prefix(b"step ")? {
         [digit, newline, ..] if digit.is_ascii_digit() & (*newline == b'\n') => {
-            Some((*digit - b'0') as u32)
+            Some(u32::from(*digit - b'0'))
         }
         _ => None,
     }

@@ -10,7 +10,6 @@ mod grammar;
 mod text;
 mod turns;
 
-pub use decimal::write_decimal;
 pub use effect::{Ran, Session, no_machine, set_up};
 pub use grammar::{Command, Numbers, read_line, short_step};
 pub use text::{LineNumber, answer_line, counted_on, line_number};

@@ -19,7 +19,8 @@ use crate::bytes::put;
 use crate::decimal::put_decimal;
 use machine::{Answer, Refusal, number_of};
 
-// `out` and `at` stay two parameters: a cursor of the two would be taken apart again at each `put`, and by the callers.
+// `out` and `at` stay two parameters: the public `answer_line` takes the two, its clauses `text`, `end` and `fits`
+// speak of them, and lent bytes of any length must do.
 
 // A word, and the value after it.
 #[tactic(auto, using(crate::proofs::Placed::value_few, crate::proofs::Placed::put_both))]
@@ -30,7 +31,7 @@ fn put_valued(word: &[u8], value: u32, out: &mut [u8], at: usize) -> usize
     ensures upper_bound { result ≤ at + length word.now + 10 }
 {
     let to = put(word, out, at);
-    put_decimal(value as u64, out, to)
+    put_decimal(u64::from(value), out, to)
 }
 
 // No `Display`: it would have these arms too, and a formatter between them and the lent bytes.
@@ -72,7 +73,7 @@ fn short_text(digit: u8) -> [u8; 2]
     requires { digit ≤ 9 }
     ensures { result ≡ number_text digit }
 {
-    [48 + digit, 32]
+    [b'0' + digit, b' ']
 }
 
 // The number of an answer, and the space after it. Nearly every answer's number has one digit, which
@@ -87,7 +88,7 @@ fn put_answer(number: u32, out: &mut [u8], at: usize) -> usize
     if number <= 9 {
         return put(&short_text(number as u8), out, at);
     }
-    put_number(number as u64, out, at)
+    put_number(u64::from(number), out, at)
 }
 
 // The last two digits of a line's number, and the digits before them, which are written anew once in a hundred lines.
@@ -135,11 +136,12 @@ pub fn counted_on(line: Option<LineNumber>, number: u64) -> Option<LineNumber>
 fn two_digits(n: u8) -> [u8; 2]
     ensures { result ≡ two_digits n }
 {
-    [48 + n / 10, 48 + n % 10]
+    [b'0' + n / 10, b'0' + n % 10]
 }
 
 // The digits of a line's number. All eight bytes go in, since a length that is known costs less than
-// one that is not: what follows covers those that are no digits.
+// one that is not: what follows covers those that are no digits. `places` is tested beside the Option, since the fields
+// are public and any value may come: `digits_of` says the same.
 fn put_line_number(number: u64, line: Option<LineNumber>, out: &mut [u8], at: usize) -> usize
     requires { at + 20 ≤ length out.old }
     ensures put_before { PutBefore (digits_of number line) at out.old out.new }

@@ -52,7 +52,8 @@ fn give_turn(sizes: Sizes, c: Core, core: u32, operation: Operation) -> Result<D
     })
 }
 
-// `step CORE`
+// `step CORE`. Memory, owners and holders stay three parameters here and below: of a struct of three borrows a clause
+// would read `lent.exit.1.1.0.now` where it says `holders.new` (tried in machine).
 fn step_turn(
     sizes: Sizes,
     c: Core,
@@ -157,10 +158,7 @@ fn turn(
                 made: did.made,
             }
         }
-        Err(refusal) => Stepped {
-            answer: Err(refusal),
-            made: None,
-        },
+        Err(refusal) => Stepped::refused(refusal),
     }
 }
 

@@ -14,6 +14,7 @@ use Rattle.rules.specs.declared.cores.MicroStep.{MicroStep}
 use Rattle.machine.specs.declared.sizes.Sizes.{Sizes}
 use Rattle.machine.specs.Acted.{Acted, acted}
 use Rattle.machine.specs.Known.{PokedOutcome, poked_outcome}
+use Rattle.machine.specs.declared.place.Stepped.{Stepped}
 use Rattle.rules.proofs.Lawful.{one-outcome}
 use Rattle.machine.specs.contracts.calls.start as start
 use Rattle.machine.proofs.calls.start.Kinds as start-kinds
@@ -42,6 +43,9 @@ use Rattle.machine.proofs.known.poke_word.Reads as poke-word-reads
 use Rattle.machine.specs.contracts.sizes.Sizes.of as sizes-of
 use Rattle.machine.proofs.sizes.Sizes.of.Kinds as sizes-of-kinds
 use Rattle.machine.proofs.sizes.Sizes.of.Reads as sizes-of-reads
+use Rattle.machine.specs.contracts.place.Stepped.refused as stepped-refused
+use Rattle.machine.proofs.place.Stepped.refused.Kinds as stepped-refused-kinds
+use Rattle.machine.proofs.place.Stepped.refused.Reads as stepped-refused-reads
 use Rattle.machine.specs.contracts.known.show_word as show-word
 use Rattle.machine.proofs.known.show_word.Kinds as show-word-kinds
 use Rattle.machine.proofs.known.show_word.Reads as show-word-reads
@@ -85,3 +89,7 @@ module _ (κs : Lfts 1) (a : ArgsD show-word.signature κs) (one other : Result 
 module _ (κs : Lfts 1) (a : ArgsD sizes-of.signature κs) (one other : Sizes) (s t : AtExit (ended_of 1 sizes-of-kinds.ps sizes-of-kinds.r) κs) where
   pub sizes_of_determined : sizes-of-reads.Post κs a one s → sizes-of-reads.Post κs a other t → one ≡ other
   sizes_of_determined p q = one-outcome Sizes _ _ _ p q
+
+module _ (κs : Lfts 0) (a : ArgsD stepped-refused.signature κs) (one other : Stepped) (s t : AtExit (ended_of 0 stepped-refused-kinds.ps stepped-refused-kinds.r) κs) where
+  pub stepped_refused_determined : stepped-refused-reads.Post κs a one s → stepped-refused-reads.Post κs a other t → one ≡ other
+  stepped_refused_determined p q = one-outcome Stepped _ _ _ p q

@@ -1,4 +1,4 @@
--- No rule of the document: what the code looks at in a core, with a test of several fields at once. Where the sizes fit it asks of the eight cores what the page Ranges.antt of `rules` asks (`looked` in proofs/Looking.antt), and no public contract cites it.
+-- No rule of the document: what the code looks at in a core, with a test of several fields at once. Where the sizes fit it asks of the eight cores what the page Ranges.antt of `rules` asks (`no_sizes`, `a_core_out` and `all_looked` in proofs/Looking.antt), and no public contract cites it.
 use Rattle.std.specs.Prelude.{ℕ, ◌+◌, ◌*◌, ◌/◌, ◌%◌, ◌^◌, Bool, ◌&&◌, ◌==◌, nat_le, nat_lt, if◌then◌else◌}
 use Rattle.rules.specs.Ranges.{core_at}
 use Rattle.rules.specs.declared.cores.Core.{Core}

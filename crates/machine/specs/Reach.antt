@@ -1,4 +1,4 @@
--- What the helper of a step that is not refused relies on: the core is one of the eight, its word lies in the lent memory, and its entry in both lent tables.
+-- What a step that is not refused reaches: the core is one of the eight, its word lies in the lent memory, and its entry in both lent tables.
 use Rattle.std.specs.Prelude.{ℕ, ◌+◌, ◌<◌, ◌≤◌, List, length}
 use Rattle.rules.specs.declared.cores.Core.{Core}
 

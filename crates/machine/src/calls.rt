@@ -20,8 +20,8 @@ fn start_refusal(count: usize, memory: usize, owners: usize, holders: usize) -> 
     Ok(())
 }
 
-// A fresh machine, of the sizes that the lent buffers have. Memory, owners and holders stay three parameters here and
-// below: a clause on a struct of three `&mut` says `lent.exit.1.1.0.now` where this one says `holders.new`.
+// A fresh machine, of the sizes that the lent buffers have. Memory, owners and holders stay three parameters: a clause
+// on a struct of three `&mut` says `lent.exit.1.1.0.now` where this one says `holders.new`.
 #[tactic(auto, unfolding(rules::specs::Calls::start_of))]
 pub fn start(count: usize, memory: &mut [u8], owners: &mut [u8], holders: &mut [u8]) -> Called
     ensures number { number_in result.answer ≡ number_in (start_refusal count (length memory.old) (length owners.old) (length holders.old)) }

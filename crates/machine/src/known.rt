@@ -34,6 +34,7 @@ fn address_refusal(bytes: usize, a: GuestAddress) -> Result<(), Refusal>
     Ok(())
 }
 
+// The entry is found once, for these tests and for the step.
 #[tactic(auto, unfolding(crate::specs::Known::known_step_refusal))]
 fn step_refusal(
     sizes: Sizes,
@@ -66,7 +67,8 @@ fn step_refusal(
     Ok(())
 }
 
-// One micro-step of the core c, which the caller then puts in its place.
+// One micro-step of the core c, which the caller then puts in its place. The three buffers stay three parameters: a
+// clause on a struct of three `&mut` says `lent.exit.1.1.0.now` where this one says `holders.new`.
 #[tactic(auto, unfolding(crate::specs::Acted::acted_of), using(crate::proofs::Knowing::step_reach, crate::proofs::Knowing::own_step))]
 pub fn step_core(
     sizes: Sizes,

@@ -2,7 +2,7 @@
 ghost use Rattle.std.specs.Prelude.{◌≡◌, length};
 ghost use Rattle.rules.specs.Refusals.{number_in};
 ghost use Rattle.rules.specs.Calls.{outcome, give_refusal, give_of, step_refusal, step_of};
-ghost use Rattle.machine.specs.Place.{given_at, called_at};
+ghost use Rattle.machine.specs.Place.{given_at, called_at, refused_step};
 
 use crate::known::{give_core, step_core};
 use crate::ranges;
@@ -14,6 +14,18 @@ use rules::{Answer, Called, Machine, Operation, Record, Refusal};
 pub struct Stepped {
     pub answer: Result<Answer, Refusal>,
     pub made: Option<Record>,
+}
+
+impl Stepped {
+    // A refusal makes no record.
+    pub fn refused(refusal: Refusal) -> Stepped
+        ensures { result ≡ refused_step refusal }
+    {
+        Stepped {
+            answer: Err(refusal),
+            made: None,
+        }
+    }
 }
 
 // An operation for an idle core, which leaves the machine as `give` hands it back.
@@ -34,7 +46,8 @@ pub fn give_in_place(
     Ok(Answer::Taken)
 }
 
-// One micro-step of one core, which leaves the machine as `step` hands it back.
+// One micro-step of one core, which leaves the machine as `step` hands it back. The three buffers stay three
+// parameters, here and in `step`: a clause on a struct of three `&mut` says `lent.exit.1.1.0.now` for `holders.new`.
 #[tactic(auto, unfolding(rules::specs::Calls::step_of, rules::specs::Calls::step_refusal))]
 pub fn step_in_place(
     machine: &mut Machine,
@@ -47,10 +60,7 @@ pub fn step_in_place(
     ensures outcome { outcome (called_at result machine.new) memory.new owners.new holders.new ≡ step_of machine.old memory.old owners.old holders.old core }
 {
     if !ranges::in_ranges(machine) {
-        return Stepped {
-            answer: Err(Refusal::OutOfRange),
-            made: None,
-        };
+        return Stepped::refused(Refusal::OutOfRange);
     }
     let at = core % 8;
     let sizes = Sizes::of(machine);
@@ -62,10 +72,7 @@ pub fn step_in_place(
                 made: did.made,
             }
         }
-        Err(refusal) => Stepped {
-            answer: Err(refusal),
-            made: None,
-        },
+        Err(refusal) => Stepped::refused(refusal),
     }
 }
 

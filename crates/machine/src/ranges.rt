@@ -121,7 +121,7 @@ fn fits_at(m: &Machine, i: usize) -> bool
 
 // Whether the state is in its ranges, looked at where it stands, core by core. It returns at the first test
 // that fails: with one test of all cores the compiler would gather fields of several cores, which costs
-// more than the tests.
+// more than the tests (docs/PERFORMANCE.md).
 #[tactic(auto, using(crate::proofs::Looking::no_sizes, crate::proofs::Looking::few_bytes, crate::proofs::Looking::a_core_out, crate::proofs::Looking::all_looked))]
 pub(crate) fn in_ranges(m: &Machine) -> bool
     ensures { result ≡ in_ranges m.now }

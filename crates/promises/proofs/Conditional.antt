@@ -20,7 +20,7 @@ use Rattle.rules.specs.declared.answers.Answer.{Answer}
 use Rattle.rules.specs.declared.answers.Answer.TheVariants as Answered
 use Rattle.rules.specs.declared.answers.Record.{Record}
 use Rattle.rules.proofs.Accepted.{sizes_fit_lem}
-use Rattle.rules.proofs.Judging.{and_no}
+use Rattle.rules.proofs.Bools.{and_false}
 use Rattle.rules.proofs.Lawful.{entry_laws}
 use Rattle.rules.proofs.Invariant.{run_inv, started_inv}
 use Rattle.promises.specs.Success.{Never, LlBy, ScBy, SpoiledBy, LatestLl, Succeeds}
@@ -141,4 +141,4 @@ answers_tell entry ref c a v = go (succeeds entry c a ref.history) refl
 
 pub poke_ends_no_link : PokeEndsNoLink
 unfolding succeeds
-poke_ends_no_link entry c a b v h = rw (and_no (eqb poke_core c), and_no (not (eqb poke_core c)))
+poke_ends_no_link entry c a b v h = rw (and_false (eqb poke_core c), and_false (not (eqb poke_core c)))

@@ -33,9 +33,9 @@ same false true p q = q refl
 same false false p q = refl
 
 -- a choice of one and the same
-pub either_way : {A : Type 0} (t : Bool) (a : A) → (if t then a else a) ≡ a
-either_way true a = refl
-either_way false a = refl
+pub if_same : {A : Type 0} (t : Bool) {x : A} → (if t then x else x) ≡ x
+if_same true = refl
+if_same false = refl
 
 -- a test of what is in use, where it is in use
 pub in_use : (a b : Bool) → a ≡ true → not a || b ≡ true → b ≡ true

@@ -1,4 +1,4 @@
--- Every two outcomes that a public function's contract allows on one input are equal. Some argument serves all.
+-- Every two outcomes that a public function's contract allows on one input are equal. One argument serves all.
 -- Assumes nothing.
 use Rattle.std.proofs.Common.{◌≡◌, ℕ}
 use contract.Lifetimes.{Lfts}

@@ -7,7 +7,7 @@ use Rattle.rules.specs.Entry.{entry_of}
 use Rattle.rules.specs.Word.{read_word, write_word}
 use Rattle.rules.specs.Life.{idle, given, micro_step, moves}
 use Rattle.rules.specs.Ranges.{core_at}
-use Rattle.rules.specs.Refusals.{Tested, no_refusal, refusal_number, number_in}
+use Rattle.rules.specs.Refusals.{no_refusal, refusal_number, number_in}
 use Rattle.rules.specs.Calls.{Outcome, outcome, refused, answered, started, with_core, start_refusal, start_of, give_refusal, give_of, step_refusal, step_of, stepped, micro_step_at, word_refusal, poke_of}
 use Rattle.rules.specs.Laws.{Sound, AsFound}
 use Rattle.rules.specs.History.{History, link_of, owner_of}
@@ -26,9 +26,8 @@ use Rattle.rules.specs.declared.state.Machine.{Machine}
 use Rattle.rules.proofs.Accepted.{core_small, sizes_fit_lem, entry_below, start_accepted, give_accepted, StepAccepted, step_accepted}
 use Rattle.rules.proofs.Kept.{idle_anywhere}
 use Rattle.rules.proofs.Lawful.{refusal_laws, range_laws, started_sound}
-use Rattle.rules.proofs.Numbers.{by_zero, refusals_numbered}
-use Rattle.rules.proofs.Judging.{and_no}
-use Rattle.rules.proofs.Bools.{either_way}
+use Rattle.rules.proofs.Numbers.{by_zero, by_tested, refusals_numbered}
+use Rattle.rules.proofs.Bools.{and_false, if_same}
 use Rattle.rules.proofs.Phases.{Locked, place_of, Phase, rests, loads, asks, holds, reaches, leaves, picture, load_step_lem, ask_step, hold_step, reach_step, leave_step_lem}
 use Rattle.rules.proofs.Running.{CoreOk, Inv, Next, no_mark}
 use Rattle.rules.proofs.Transitions.{carried, given_next, poked_next, loaded_next, lock_next, mark_next, access_next, leave_next, judged_right}
@@ -36,11 +35,6 @@ use Rattle.rules.proofs.Transitions.{carried, given_next, poked_next, loaded_nex
 -- a call leaves the state in its ranges, and the buffers of its sizes, as it found them
 found_sound : (x o : Outcome) → AsFound x o.called.machine o.memory o.owners o.holders → Sound o → Sound x
 found_sound x o f s = record { ranges = rw f.machine_as_found s.ranges; lengths = rw (f.machine_as_found, f.memory_as_found, f.owners_as_found, f.holders_as_found) s.lengths }
-
--- by whether a call's tests refuse it
-by_tested : (P : Type 0) (t : Tested) → (t ≡ no_refusal → P) → ((r : Refusal) → t ≡ Err r → P) → P
-by_tested P (Ok u) yes' no' = yes' refl
-by_tested P (Err r) yes' no' = no' r refl
 
 pub sound_act : (o : Outcome) → Sound o → (call : Call) → Sound (act o call)
 unfolding act
@@ -101,10 +95,10 @@ module _ (n : ℕ) (zeros : List ℕ) (o : Outcome) (h : History) (ws : List Who
   -- a call that is refused
   refused_give : (c : ℕ) (op : Operation) (r : Refusal) → After (give c op) (outcome (refused r o.called.machine) o.memory o.owners o.holders)
   refused_give c op r =
-      carried n zeros o h ws gs ds inv (Err r) None (λ i. taken i (give c op) (Err r) (gs i)) ds (λ i. rw (ne_eqb (refusal_number r) 0 (refusals_numbered r), and_no (eqb c i))) (λ i. refl)
+      carried n zeros o h ws gs ds inv (Err r) None (λ i. taken i (give c op) (Err r) (gs i)) ds (λ i. rw (ne_eqb (refusal_number r) 0 (refusals_numbered r), and_false (eqb c i))) (λ i. refl)
 
   refused_step : (c : ℕ) (r : Refusal) → After (step c) (outcome (refused r o.called.machine) o.memory o.owners o.holders)
-  refused_step c r = carried n zeros o h ws gs ds inv (Err r) None gs (λ i. delivers i (step c) (Err r) (ds i)) (λ i. refl) (λ i. either_way (eqb c i) (ds i))
+  refused_step c r = carried n zeros o h ws gs ds inv (Err r) None gs (λ i. delivers i (step c) (Err r) (ds i)) (λ i. refl) (λ i. if_same (eqb c i))
 
   next_give : (c : ℕ) (op : Operation) → After (give c op) (act o (give c op))
   next_give c op =
@@ -174,7 +168,7 @@ module _ (n : ℕ) (zeros : List ℕ) (o : Outcome) (h : History) (ws : List Who
         ∙ ap (λ (m : Machine). outcome (record { answer = Ok Answered.Waits; made = None; machine = m }) o.memory o.owners o.holders) (machine_same (picture (asks l) (link_of c h)) p)
 
     waits_next : After (step c) (outcome (record { answer = Ok Answered.Waits; made = None; machine = o.called.machine }) o.memory o.owners o.holders)
-    waits_next = carried n zeros o h ws gs ds inv (Ok Answered.Waits) None gs (λ i. delivers i (step c) (Ok Answered.Waits) (ds i)) (λ i. refl) (λ i. either_way (eqb c i) (ds i))
+    waits_next = carried n zeros o h ws gs ds inv (Ok Answered.Waits) None gs (λ i. delivers i (step c) (Ok Answered.Waits) (ds i)) (λ i. refl) (λ i. if_same (eqb c i))
 
     by_phase : (p : Phase) → CoreOk n zeros o h ws c p (gs c) (ds c) → After (step c) (act o (step c))
     by_phase rests ok = absurd (true≢false (sym accepted.busy ∙ ap (λ (y : Core). y.busy) ok.core))

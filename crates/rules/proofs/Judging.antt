@@ -9,14 +9,7 @@ use Rattle.rules.specs.History.{History, succeeds, Link, no_link, link_of, owner
 use Rattle.rules.specs.declared.entry.GuestAddress.{GuestAddress}
 use Rattle.rules.specs.declared.entry.EntryNumber.{EntryNumber}
 use Rattle.rules.specs.declared.answers.Record.{Record}
-
-pub and_no : (t : Bool) → t && false ≡ false
-and_no true = refl
-and_no false = refl
-
-if_same : {A : Type 0} (t : Bool) {x : A} → (if t then x else x) ≡ x
-if_same true = refl
-if_same false = refl
+use Rattle.rules.proofs.Bools.{and_false, if_same}
 
 -- what one more access does to links and owner marks
 module _ (i : ℕ) (r : Record) (h : History) where
@@ -26,7 +19,7 @@ module _ (i : ℕ) (r : Record) (h : History) where
 
   pub link_quiet : links_kind r.kind ≡ false → unlinks_kind r.kind ≡ false → link_of i (r ∷ h) ≡ link_of i h
   unfolding link_of
-  link_quiet p q = rw (p, q, and_no (eqb r.core i))
+  link_quiet p q = rw (p, q, and_false (eqb r.core i))
 
   pub link_ll : r.core ≡ i → r.kind ≡ 2 → link_of i (r ∷ h) ≡ record { linked = true; link = r.address }
   unfolding link_of
@@ -105,10 +98,10 @@ module _ (entry : GuestAddress → EntryNumber) (c : ℕ) (a : GuestAddress) whe
     mine false false false false true success e s = ih
 
     theirs : (two three four ends same : Bool) → (r.core ≡ c → ⊥) → Claim false two three four ends same
-    theirs two three four ends false e = rw (and_no (two || (three || four))) ih
-    theirs true three four ends true e = rw (not_mine r.core e) (sym (and_no (linkThere (link_of c h))))
-    theirs false true four ends true e = rw (other_store r.core (owner_of entry (entry a).0 h) e) (sym (and_no (linkThere (link_of c h))))
-    theirs false false true ends true e = rw no_mark (sym (and_no (linkThere (link_of c h))))
+    theirs two three four ends false e = rw (and_false (two || (three || four))) ih
+    theirs true three four ends true e = rw (not_mine r.core e) (sym (and_false (linkThere (link_of c h))))
+    theirs false true four ends true e = rw (other_store r.core (owner_of entry (entry a).0 h) e) (sym (and_false (linkThere (link_of c h))))
+    theirs false false true ends true e = rw no_mark (sym (and_false (linkThere (link_of c h))))
     theirs false false false ends true e = ih
 
     -- a successful sc is an sc

@@ -9,7 +9,6 @@ use Rattle.rules.specs.declared.entry.GuestAddress.{GuestAddress}
 use Rattle.rules.specs.declared.answers.Operation.{Operation}
 use Rattle.rules.specs.declared.answers.Answer.{Answer}
 use Rattle.rules.specs.declared.refusals.Refusal.{Refusal}
-use Rattle.rules.specs.declared.refusals.Refusal.TheVariants.{NoSuchCore, Unaligned, Outside, LentLengths, OutOfRange, Damaged, Busy, Idle, NotUnderstood, NoMachine, BlockMark, BlockCheck, BlockNumber, RecordCount, RecordField, BlockLength, Full, Closed}
 use Rattle.rules.specs.declared.answers.Answer.TheVariants.{Word}
 use Rattle.rules.specs.declared.state.Machine.{Machine}
 use Rattle.rules.specs.declared.state.Called.{Called}
@@ -27,26 +26,14 @@ by_zero P n yes' no' = go (eqb n 0) refl
     go true e = yes' (eqb-true n 0 e)
     go false e = no' (eqb-false n 0 e)
 
+-- by whether a call's tests refuse it
+pub by_tested : (P : Type 0) (t : Tested) → (t ≡ no_refusal → P) → ((r : Refusal) → t ≡ Err r → P) → P
+by_tested P (Ok u) yes' no' = yes' refl
+by_tested P (Err r) yes' no' = no' r refl
+
 -- no refusal has the number 0
 pub refusals_numbered : (r : Refusal) → refusal_number r ≡ 0 → ⊥
-refusals_numbered NoSuchCore h = omega arith
-refusals_numbered Unaligned h = omega arith
-refusals_numbered Outside h = omega arith
-refusals_numbered LentLengths h = omega arith
-refusals_numbered OutOfRange h = omega arith
-refusals_numbered Damaged h = omega arith
-refusals_numbered Busy h = omega arith
-refusals_numbered Idle h = omega arith
-refusals_numbered NotUnderstood h = omega arith
-refusals_numbered NoMachine h = omega arith
-refusals_numbered BlockMark h = omega arith
-refusals_numbered BlockCheck h = omega arith
-refusals_numbered BlockNumber h = omega arith
-refusals_numbered RecordCount h = omega arith
-refusals_numbered RecordField h = omega arith
-refusals_numbered BlockLength h = omega arith
-refusals_numbered Full h = omega arith
-refusals_numbered Closed h = omega arith
+refusals_numbered r h = grind arith
 
 -- tests whose number is 0 refuse nothing
 pub not_refused : (t : Tested) → number_in t ≡ 0 → t ≡ no_refusal

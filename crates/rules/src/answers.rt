@@ -39,6 +39,7 @@ pub struct Record {
 }
 
 impl Operation {
+    // The number that a core keeps, as C has it.
     pub fn code(self) -> u8
         ensures { result ≡ code_of self }
     {

@@ -22,11 +22,12 @@ impl GuestAddress {
 
 // The entry of an address. Where the entries are a power of two the division is a mask; with no
 // entries at all the entry is the word's number.
+#[tactic(auto, unfolding(crate::specs::Entry::entry_of), using(crate::proofs::Powers::masked))]
 pub fn entry_of(entries: usize, address: GuestAddress) -> EntryNumber
     ensures { result ≡ entry_of entries address }
 {
     let word = address.place() / 4;
-    let below = std::num::wrapping_sub_usize(entries, 1);
+    let below = entries.wrapping_sub(1);
     if entries & below == 0 {
         return EntryNumber(word & below);
     }

@@ -12,6 +12,7 @@ use lib.Dec.{eqb, leb}
 use borrow.Author.Tests.{ne_eqb, leb-true, leb-false}
 use Rattle.std.specs.Prelude.{cond, Option, Some}
 use Rattle.std.specs.List.{position_or_len}
+use Rattle.std.proofs.lemmas.Bool.{false_from_ne_true}
 use Rattle.std.proofs.lemmas.List.Sums.{position_or_len_is}
 use Rattle.memchr.specs.Find.{Nowhere, NoneBefore, Passes, is_byte}
 use Rattle.std.proofs.lemmas.List.Recursion.{is_position_or_len}
@@ -88,22 +89,18 @@ first_place : (bytes : List ℕ) → length (first_line bytes) ≡ position_or_l
 first_place = is_position_or_len (λ l. length (first_line l)) (λ b. eqb b 10) refl
     (λ b bytes. by_test (λ (t : Bool). length (if t then [] else b ∷ first_line bytes) ≡ cond t 0 (1 + length (first_line bytes))) (eqb b 10) refl (omega arith))
 
-is_not : (t : Bool) → (t ≡ true → ⊥) → t ≡ false
-is_not true n = absurd (n refl)
-is_not false n = refl
-
 -- what a search for a newline answers
 pub found_none : (bytes : List ℕ) → Nowhere (Passes (is_byte 10) bytes) 0 (length bytes) → length (first_line bytes) ≡ length bytes
 found_none bytes none =
     first_place bytes
-    ∙ position_or_len_is (λ b. eqb b 10) bytes (length bytes) 0 (omega arith) (λ k low. is_not (eqb (get_or bytes k 0) 10) (none k (omega arith) low)) (λ h. absurd (omega arith))
+    ∙ position_or_len_is (λ b. eqb b 10) bytes (length bytes) 0 (omega arith) (λ k low. false_from_ne_true (eqb (get_or bytes k 0) 10) (none k (omega arith) low)) (λ h. absurd (omega arith))
 
 pub found_some : (bytes : List ℕ) (n : ℕ) → NoneBefore (Passes (is_byte 10) bytes) 0 (length bytes) n → Passes (is_byte 10) bytes n
     → (n ≡ length (first_line bytes)) × (n + 1 ≤ length bytes)
 found_some bytes n none here =
     let h : n < length bytes = none.high in (
       sym (first_place bytes
-          ∙ position_or_len_is (λ b. eqb b 10) bytes n 0 (omega arith) (λ k low. is_not (eqb (get_or bytes k 0) 10) (none.before k (omega arith) low)) (λ _. here)),
+          ∙ position_or_len_is (λ b. eqb b 10) bytes n 0 (omega arith) (λ k low. false_from_ne_true (eqb (get_or bytes k 0) 10) (none.before k (omega arith) low)) (λ _. here)),
       omega arith,
     )
 

@@ -5,30 +5,38 @@ ghost use Rattle.script.specs.Lines.{handed, between};
 use crate::failure::Failure;
 use std::io::Read;
 
-// The first bytes are what is held of an unfinished line. There is room for 81 of them, and a piece of 64 KiB.
+// Room for 81 bytes of an unfinished line, and a piece of 64 KiB.
+const ROOM: usize = 65617;
+
+// The first bytes are what is held of an unfinished line, and what was read ends at `end`.
 #[derive(Drop)]
 pub struct Input {
-    pub bytes: [u8; 65617],
+    pub bytes: [u8; ROOM],
     pub held: usize,
+    pub end: usize,
     ghost held_bound: { held ≤ 81 },
+    ghost within: { end ≤ length bytes },
 }
 
 impl Input {
     pub(crate) fn new() -> Input {
         Input {
-            bytes: [0; 65617],
+            bytes: [0; ROOM],
             held: 0,
+            end: 0,
         }
     }
 
-    // Reads a piece behind the bytes that are held, and answers where it ends: where it begins, at the end of the
-    // input.
-    pub(crate) fn read(&mut self, rt: &HostRuntime) -> Result<usize, Failure<'static>>
-        ensures end { IfOk result (λ end. (self.old.held ≤ end) × (end ≤ 65617)) }
+    // Reads a piece behind the bytes that are held, up to `end`. At the end of the input it is empty.
+    pub(crate) fn read(&mut self, rt: &HostRuntime) -> Result<(), Failure<'static>>
+        ensures end { IfOk result (λ _. self.old.held ≤ self.new.end) }
         ensures held { self.new.held ≡ self.old.held }
     {
         match rt.stdin().read(&mut self.bytes[self.held..]) {
-            Ok(count) => Ok(self.held + count),
+            Ok(count) => {
+                self.end = self.held + count;
+                Ok(())
+            }
             Err(error) => Err(Failure {
                 what: b"standard input",
                 error,
@@ -38,12 +46,12 @@ impl Input {
 
     // Moves what is handed on of an unfinished line to the front.
     #[tactic(auto, using(crate::proofs::Cutting::kept_handed))]
-    pub(crate) fn keep(&mut self, from: usize, end: usize)
-        requires { (from ≤ end) × (end ≤ 65617) }
-        ensures count { self.new.held ≡ min (length (between from end self.old.bytes)) 81 }
-        ensures front { take self.new.held self.new.bytes ≡ handed (between from end self.old.bytes) }
+    pub(crate) fn keep(&mut self, from: usize)
+        requires { from ≤ self.old.end }
+        ensures count { self.new.held ≡ min (length (between from self.old.end self.old.bytes)) 81 }
+        ensures front { take self.new.held self.new.bytes ≡ handed (between from self.old.end self.old.bytes) }
     {
-        self.held = (end - from).min(81);
+        self.held = (self.end - from).min(81);
         self.bytes.copy_within(from..from + self.held, 0);
     }
 }

@@ -17,8 +17,8 @@ use paths::PATH_ROOM;
 use std::env::{Env, FillError};
 use std::io;
 
-// What the system says of an argument that could not be copied. (4) Both types are the library's, so none of them can
-// have a `From` here.
+// What the system says of an argument that could not be copied.
+// It is no `From`: both types are the library's, so the trait's impl for them cannot stand in this crate.
 fn refusal(error: FillError) -> io::Error {
     match error {
         FillError::NotPresent => io::Error::from_raw_os_error(22),
@@ -26,8 +26,8 @@ fn refusal(error: FillError) -> io::Error {
     }
 }
 
-// `archive FILE` or `records FILE`. (1) Arguments stay bytes with a length: `env::args` refuses what is no text and has no
-// longest one, and what the program does with both may not change.
+// `archive FILE` or `records FILE`. A length stands beside each buffer: `arg` fills one, and answers how far.
+// Not by `env::args`, which refuses what is no text and has no longest argument: what the program does may not change.
 fn with_file(rt: &HostRuntime) {
     let mut mode = [0; PATH_ROOM];
     let n = rt.arg(1, &mut mode).unwrap_or(0);

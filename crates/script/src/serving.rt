@@ -57,17 +57,11 @@ impl Serving<'_> {
     }
 
     // Answers all whole lines of a piece, writes the answers out, and keeps what is left.
-    fn serve_piece(
-        &mut self,
-        rt: &HostRuntime,
-        input: &mut Input,
-        end: usize,
-    ) -> Result<(), Failure<'static>>
-        requires { end ≤ 65617 }
-    {
+    fn serve_piece(&mut self, rt: &HostRuntime, input: &mut Input) -> Result<(), Failure<'static>> {
         let mut from = 0;
+        // Turns are counted, as every loop has to end: one that only writes out brings `from` no further.
         for _ in 0..u64::MAX {
-            match self.answer_some(rt, &input.bytes[from..end])? {
+            match self.answer_some(rt, &input.bytes[from..input.end])? {
                 ControlFlow::Continue(count) => from += count,
                 ControlFlow::Break(count) => {
                     from += count;
@@ -76,7 +70,7 @@ impl Serving<'_> {
             }
         }
         output::flush(rt, &mut self.out)?;
-        input.keep(from, end);
+        input.keep(from);
         Ok(())
     }
 
@@ -86,19 +80,21 @@ impl Serving<'_> {
         if held == 0 {
             return Ok(());
         }
-        input.bytes[held] = 10;
-        self.serve_piece(rt, input, held + 1)
+        input.bytes[held] = b'\n';
+        input.end = held + 1;
+        self.serve_piece(rt, input)
     }
 
     // Answers the input to its end, while a line can have a number.
     fn serve_all(&mut self, rt: &HostRuntime) -> Result<(), Failure<'static>> {
         let mut input = Input::new();
+        // Nothing says that an input ends.
         for _ in 0..u64::MAX {
-            let end = input.read(rt)?;
-            if end == input.held {
+            input.read(rt)?;
+            if input.end == input.held {
                 return self.serve_last(rt, &mut input);
             }
-            self.serve_piece(rt, &mut input, end)?;
+            self.serve_piece(rt, &mut input)?;
             if self.work.answered == u64::MAX {
                 return Ok(());
             }
