@@ -10,7 +10,7 @@ pub(crate) fn read_word(memory: &[u8], address: GuestAddress) -> u32
     ensures { result ≡ read_word memory.now address }
 {
     let at = address.place();
-    u32::from_le_bytes([memory[at], memory[at + 1], memory[at + 2], memory[at + 3]])
+    u32::from_le_bytes(*memory[at..].first_chunk().unwrap())
 }
 
 #[tactic(auto, unfolding(rules::specs::Word::write_word), using(crate::proofs::Bytes::four_written))]

@@ -1,6 +1,7 @@
 -- The function that decides the success rule decides exactly what document 01 words. The entry rule is any.
 -- Assumes nothing.
 use Rattle.std.proofs.Common.{if◌then◌else◌}
+use Rattle.std.proofs.lemmas.Bool.{false_from_ne_true, not-true}
 use mathlib.Core.Path.{◌≡◌, refl, sym, ap, ◌∙◌}
 use mathlib.Core.Logic.{◌⊎◌, inl, inr}
 use mathlib.Core.Bool.{Bool, true, false, not, ◌||◌, true≢false, false≢true}
@@ -41,14 +42,6 @@ of_one_of_three : (x k m n : ℕ) → (x ≡ k) ⊎ ((x ≡ m) ⊎ (x ≡ n)) �
 of_one_of_three x k m n (inl p) = rw (eq-eqb x k p)
 of_one_of_three x k m n (inr q) = rw (of_one x m n q) (or_true (eqb x k))
 
-not_true : (a : Bool) → (a ≡ true → ⊥) → a ≡ false
-not_true true f = absurd (f refl)
-not_true false f = refl
-
-of_not : (a : Bool) → not a ≡ true → a ≡ false
-of_not true p = absurd (false≢true p)
-of_not false p = refl
-
 pub ll_by : (c : ℕ) (r : Record) → own_ll c r ≡ true → LlBy c r
 ll_by c r h = let t = and₂ (eqb r.core c) (eqb r.kind 2) h in (eqb-true _ _ t.0, eqb-true _ _ t.1)
 
@@ -68,7 +61,7 @@ module _ (entry : GuestAddress → EntryNumber) (c : ℕ) (a : GuestAddress) whe
   pub spoiled_by : (r : Record) → spoils entry c a r ≡ true → SpoiledBy entry c a r
   spoiled_by r h =
       let t = and₃ (not (eqb r.core c)) (eqb r.kind 2 || (eqb r.kind 3 || eqb r.kind 4)) (eqb (entry r.address).0 (entry a).0) h in
-      (eqb-false _ _ (of_not _ t.0), one_of_three r.kind 2 3 4 t.1, same_entry (entry r.address) (entry a) (eqb-true _ _ t.2))
+      (eqb-false _ _ (not-true _ t.0), one_of_three r.kind 2 3 4 t.1, same_entry (entry r.address) (entry a) (eqb-true _ _ t.2))
 
   pub by_spoiled : (r : Record) → SpoiledBy entry c a r → spoils entry c a r ≡ true
   by_spoiled r h =
@@ -110,7 +103,7 @@ module _ (entry : GuestAddress → EntryNumber) (c : ℕ) (a : GuestAddress) whe
   unfolding succeeds
   accepts [] ll before l at n s u = rw (by_ll c ll l) (eq-eqb _ _ (ap (λ (b : GuestAddress). b.0) at))
   accepts (r ∷ since) ll before l at n s u =
-      rw (not_true (own_ll c r) (λ k. n.0 (ll_by c r k)), not_true (own_sc c r) (λ k. s.0 (sc_by c r k)), not_true (spoils entry c a r) (λ k. u.0 (spoiled_by r k)))
+      rw (false_from_ne_true (own_ll c r) (λ k. n.0 (ll_by c r k)), false_from_ne_true (own_sc c r) (λ k. s.0 (sc_by c r k)), false_from_ne_true (spoils entry c a r) (λ k. u.0 (spoiled_by r k)))
       (accepts since ll before l at n.1 s.1 u.1)
 
   pub decides : (h : History) → Succeeds entry c a h → succeeds entry c a h ≡ true
