@@ -2,8 +2,9 @@
  *
  * The library keeps no state and allocates nothing. The bench keeps one machine and one writer, each
  * a plain struct, and lends memory and both tables to each call. Every call takes any values and
- * refuses by document 01's number; a refusal leaves all that it was lent as it was found, but for a
- * record's 16 bytes, which are then zero, and for malthobre_start, which leaves an all-zero machine.
+ * refuses by the number that the rules give (docs/RULES.md, 6 and 13); a refusal leaves all that it was
+ * lent as it was found, but for a record's 16 bytes, which are then zero, and for malthobre_start, which
+ * leaves an all-zero machine.
  *
  * What the library cannot test, and what a call therefore relies on:
  *   - a pointer is not null and points to as many bytes as the length beside it says (to a whole
@@ -55,8 +56,9 @@ typedef struct malthobre_writer {
 
 /* ---- An answer: one 64-bit number ----
  *
- * Bits 0 to 7 are document 01's number, 0 to 18; bits 8 to 15 say which answer it is, 0 for a
- * refusal; bits 16 to 31 are 0; bits 32 to 63 are the value, 0 where an answer has none.
+ * Bits 0 to 7 are the rules' number, 0 to 18 (docs/RULES.md, 6.1); bits 8 to 15 say which
+ * answer it is, 0 for a refusal; bits 16 to 31 are 0; bits 32 to 63 are the value, 0 where an answer has
+ * none.
  */
 #define MALTHOBRE_NUMBER(answer) ((unsigned)((answer)&0xff))
 #define MALTHOBRE_WORD(answer) ((unsigned)((answer) >> 8 & 0xff))
@@ -84,9 +86,10 @@ enum {
 
 /* ---- A record: 16 bytes, as in an archive block, little-endian ----
  *
- * 0 core (0..7, 255 for a poke); 1 kind (1 load, 2 ll, 3 store, 4 sc success, 5 sc failure, 6 poke);
- * 2..3 zero; 4..7 address; 8..11 value; 12..15 record number, 0 in a record that no writer has yet
- * numbered. Kind 0, and 16 zero bytes, is no record.
+ * 0 the core, 0..7, and 255 of a poke; 1 the kind: 1 a load, 2 an ll, 3 a store, 4 an sc that succeeded,
+ * 5 an sc that failed, 6 a poke; 2..3 zero; 4..7 the address; 8..11 the value; 12..15 the record's number,
+ * 0 in a record that no writer has yet numbered (docs/RULES.md, 7.4). Kind 0, and 16 zero bytes, is no
+ * record.
  */
 typedef uint8_t malthobre_record[16];
 
@@ -144,7 +147,7 @@ uint64_t malthobre_block_check(const uint8_t *block, size_t block_length, uint32
 uint64_t malthobre_block_record(const uint8_t *block, size_t block_length, uint32_t expected, bool after_short,
                                 size_t place, malthobre_record record);
 
-/* A whole archive. Refused 16 for a length that is no multiple of 512, with the value 0; else the first
+/* A whole archive. Refused 16, with the value 0, if its length is no multiple of 512; else the first
  * refused block decides, with its number, and the value is the block's index (at most 1,048,576).
  * Else HOLDS. */
 uint64_t malthobre_archive_check(const uint8_t *archive, size_t archive_length);

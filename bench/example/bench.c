@@ -1,4 +1,4 @@
-/* A bench in C: plays the small runs P1 to P9 of document 01 on one machine, archives what they did and
+/* A bench in C: plays the small runs P1 to P9 (docs/RULES.md, 9) on one machine, archives what they did and
  * reads the archive back. It ends with status 1 at the first answer that is not the rules'. */
 #include "../malthobre.h"
 #include <stdio.h>

@@ -1,4 +1,4 @@
-// A bench in Rust: plays the small runs P1 to P9 of document 01 on one machine, archives what they did
+// A bench in Rust: plays the small runs P1 to P9 (docs/RULES.md, 9) on one machine, archives what they did
 // and reads the archive back. It panics at the first answer that is not the rules'.
 use std::mem::{offset_of, size_of};
 

@@ -1,6 +1,6 @@
 #!/usr/bin/env python3
-"""What the two example benches must print, from document 01's text: each run's operations one after another, memory
-as words, and a store-conditional judged from the history of accesses by the written rule."""
+"""What the two example benches must print, from the text of docs/RULES.md: each run's operations one after another,
+memory as words, and a store-conditional judged from the history of accesses by the written rule."""
 
 RUNS = """0 ll 8, 0 sc 8 5
 0 ll 8, 1 store 8 7, 1 store 8 0, 0 sc 8 5
@@ -14,8 +14,8 @@ RUNS = """0 ll 8, 0 sc 8 5
 
 
 def succeeds(core, address, history):
-    """"c has done an ll, the latest was at a, c has done no sc since, and since that ll no other core has done an ll, a
-    store or a successful sc at any address with the same entry"; the history's latest access is its last."""
+    """RULES 5.3 to 5.6, from the latest access back: the core's latest ll is at the address, with no sc of the core and
+    no ll, store or successful sc of another at the entry after it. The history's latest access is its last."""
     for other, kind, at, _ in reversed(history):
         if other == core and kind in (2, 4, 5):
             return kind == 2 and at == address
@@ -52,5 +52,5 @@ for number, run in enumerate(RUNS, 1):
 print(f"archive: {(len(records) + 30) // 31 * 512} bytes, {len(records)} records")
 for n, (core, kind, address, value) in enumerate(records):
     print(f"{n}: core {core} kind {kind} address {address} value {value}")
-# "12: block check wrong"
+# 12: the check is the first test of a block that fails (RULES 6.13)
 print("a bit of block 1 turned: refused 12")

@@ -11,8 +11,8 @@ fn entry_of(address: u32, entries: usize) -> usize {
     (address as usize / 4) % entries
 }
 
-/// Whether core c's sc at an address succeeds: c has done an ll, the latest was at this address, c has
-/// done no sc since, and since then no other core an ll, a store or a successful sc at the same entry.
+/// Whether core c's sc at an address succeeds (RULES 5.3 to 5.6): its latest ll was there, and after it came no
+/// sc of its own, and no ll, store or successful sc of another core at the same entry.
 pub fn succeeds(history: &[Record], entries: usize, core: u8, address: u32) -> bool {
     let entry = entry_of(address, entries);
     for access in history.iter().rev() {

@@ -1,4 +1,4 @@
-//! Document 01 a second time, in plain Rust, held against the proved library and program.
+//! The rules (docs/RULES.md) a second time, in plain Rust, held against the proved library and program.
 
 #![deny(unsafe_code)]
 

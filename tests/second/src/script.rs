@@ -223,7 +223,7 @@ impl Script {
         self.keep(piece);
     }
 
-    /// The input is over: a last line without a newline counts if it has any byte.
+    /// The input is over: what stands after its last newline is a line too, unless it is empty.
     pub fn finish(&mut self, answers: &mut Vec<u8>, sink: &mut impl Sink) {
         if self.begun_length > 0 {
             self.begun_line(answers, sink);

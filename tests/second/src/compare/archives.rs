@@ -57,7 +57,7 @@ impl Archivist for super::deeds::Second {
     }
 }
 
-/// The block of a number and its records, put together from the document's layout with plain sums: what
+/// The block of a number and its records, put together from the rules' layout with plain sums: what
 /// any accepted block has to be.
 fn encoded(number: u32, records: &[Record]) -> [u8; BLOCK] {
     let mut bytes = b"LLRN".to_vec();

@@ -1,4 +1,4 @@
-//! Blocks, the writer, the reader and the whole archive, byte by byte as document 01 lays them out.
+//! Blocks, the writer, the reader and the whole archive, byte by byte as docs/RULES.md, 7, lays them out.
 
 use crate::archive::{block_refusal, seal, sought, whole, Read, Reader, Sought, Whole, Writer, Wrote, BLOCK};
 use crate::machine::Record;

@@ -1,4 +1,4 @@
-//! What document 01 says, by hand.
+//! What docs/RULES.md says, by hand.
 
 mod archives;
 mod machines;
