@@ -8,12 +8,12 @@ use Rattle.rules.specs.Basics.{all_below}
 use Rattle.rules.specs.Sizes.{cores_fit, bytes_fit, entries_fit, tables_fit}
 use Rattle.rules.specs.Entry.{entry_of}
 use Rattle.rules.specs.Ranges.{core_at, inside, operation_fields, value_fields, link_fields, operation_fits, addresses_fit, place_fits, core_fits, sizes_fit, every_core_fits, in_ranges, damaged}
-use Rattle.rules.specs.Kinds.{address_of}
+use Rattle.rules.specs.Operations.{address_of}
 use Rattle.rules.specs.Refusals.{Tested, no_refusal}
 use Rattle.rules.specs.declared.refusals.Refusal.TheVariants.{NoSuchCore, Unaligned, Outside, LentLengths, OutOfRange, Damaged, Busy, Idle}
 use Rattle.rules.specs.Calls.{lent_fits, address_refusal, entry_at, mark_at, start_refusal, give_refusal, step_refusal, word_refusal}
 use Rattle.rules.specs.declared.entry.GuestAddress.{GuestAddress}
-use Rattle.rules.specs.declared.answers.Operation.{Operation}
+use Rattle.rules.specs.declared.operations.Operation.{Operation}
 use Rattle.rules.specs.declared.cores.Core.{Core}
 use Rattle.rules.specs.declared.state.Machine.{Machine}
 use Rattle.rules.proofs.Bools.{and₂, and₃, in_use, passed_over}

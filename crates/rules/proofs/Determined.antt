@@ -1,6 +1,6 @@
 -- Every two outcomes that a public function's contract allows on one input are equal. One argument serves all.
 -- Assumes nothing.
-use Rattle.std.proofs.Common.{◌≡◌, ℕ}
+use Rattle.std.proofs.Common.{◌≡◌, ℕ, Option}
 use contract.Lifetimes.{Lfts}
 use borrow.Fn.World.{ArgsD}
 use borrow.Fn.Kinds.{ended_of}
@@ -9,6 +9,8 @@ use denote.RattleType.{RattleType}
 use denote.Param.Laws.{Laws}
 use Rattle.rules.specs.declared.entry.GuestAddress.{GuestAddress}
 use Rattle.rules.specs.declared.entry.EntryNumber.{EntryNumber}
+use Rattle.rules.specs.declared.kinds.Kind.{Kind}
+use Rattle.rules.specs.declared.operations.Shape.{Shape}
 use Rattle.rules.specs.declared.cores.Core.{Core}
 use Rattle.rules.specs.declared.cores.MicroStep.{MicroStep}
 use Rattle.rules.specs.declared.state.Machine.{Machine}
@@ -20,15 +22,24 @@ use Rattle.rules.proofs.entry.entry_of.Reads as entry-of-reads
 use Rattle.rules.specs.contracts.entry.GuestAddress.place as place
 use Rattle.rules.proofs.entry.GuestAddress.place.Kinds as place-kinds
 use Rattle.rules.proofs.entry.GuestAddress.place.Reads as place-reads
-use Rattle.rules.specs.contracts.answers.Operation.code as code
-use Rattle.rules.proofs.answers.Operation.code.Kinds as code-kinds
-use Rattle.rules.proofs.answers.Operation.code.Reads as code-reads
-use Rattle.rules.specs.contracts.answers.Operation.address as address
-use Rattle.rules.proofs.answers.Operation.address.Kinds as address-kinds
-use Rattle.rules.proofs.answers.Operation.address.Reads as address-reads
-use Rattle.rules.specs.contracts.answers.Operation.value as value
-use Rattle.rules.proofs.answers.Operation.value.Kinds as value-kinds
-use Rattle.rules.proofs.answers.Operation.value.Reads as value-reads
+use Rattle.rules.specs.contracts.operations.Operation.code as code
+use Rattle.rules.proofs.operations.Operation.code.Kinds as code-kinds
+use Rattle.rules.proofs.operations.Operation.code.Reads as code-reads
+use Rattle.rules.specs.contracts.operations.Operation.address as address
+use Rattle.rules.proofs.operations.Operation.address.Kinds as address-kinds
+use Rattle.rules.proofs.operations.Operation.address.Reads as address-reads
+use Rattle.rules.specs.contracts.operations.Operation.value as value
+use Rattle.rules.proofs.operations.Operation.value.Kinds as value-kinds
+use Rattle.rules.proofs.operations.Operation.value.Reads as value-reads
+use Rattle.rules.specs.contracts.kinds.Kind.number as kind-number
+use Rattle.rules.proofs.kinds.Kind.number.Kinds as kind-number-kinds
+use Rattle.rules.proofs.kinds.Kind.number.Reads as kind-number-reads
+use Rattle.rules.specs.contracts.kinds.Kind.of as kind-of-number
+use Rattle.rules.proofs.kinds.Kind.of.Kinds as kind-of-number-kinds
+use Rattle.rules.proofs.kinds.Kind.of.Reads as kind-of-number-reads
+use Rattle.rules.specs.contracts.operations.Shape.of as shape-of-number
+use Rattle.rules.proofs.operations.Shape.of.Kinds as shape-of-number-kinds
+use Rattle.rules.proofs.operations.Shape.of.Reads as shape-of-number-reads
 use Rattle.rules.specs.contracts.refusals.Refusal.number as number
 use Rattle.rules.proofs.refusals.Refusal.number.Kinds as number-kinds
 use Rattle.rules.proofs.refusals.Refusal.number.Reads as number-reads
@@ -73,6 +84,18 @@ module _ (κs : Lfts 0) (a : ArgsD address.signature κs) (one other : GuestAddr
 module _ (κs : Lfts 0) (a : ArgsD value.signature κs) (one other : ℕ) (s t : AtExit (ended_of 0 value-kinds.ps value-kinds.r) κs) where
   pub value_determined : value-reads.Post κs a one s → value-reads.Post κs a other t → one ≡ other
   value_determined p q = one-outcome ℕ _ _ _ p q
+
+module _ (κs : Lfts 0) (a : ArgsD kind-number.signature κs) (one other : ℕ) (s t : AtExit (ended_of 0 kind-number-kinds.ps kind-number-kinds.r) κs) where
+  pub kind_number_determined : kind-number-reads.Post κs a one s → kind-number-reads.Post κs a other t → one ≡ other
+  kind_number_determined p q = one-outcome ℕ _ _ _ p q
+
+module _ (κs : Lfts 0) (a : ArgsD kind-of-number.signature κs) (one other : Option Kind) (s t : AtExit (ended_of 0 kind-of-number-kinds.ps kind-of-number-kinds.r) κs) where
+  pub kind_of_number_determined : kind-of-number-reads.Post κs a one s → kind-of-number-reads.Post κs a other t → one ≡ other
+  kind_of_number_determined p q = one-outcome (Option Kind) _ _ _ p q
+
+module _ (κs : Lfts 0) (a : ArgsD shape-of-number.signature κs) (one other : Option Shape) (s t : AtExit (ended_of 0 shape-of-number-kinds.ps shape-of-number-kinds.r) κs) where
+  pub shape_of_number_determined : shape-of-number-reads.Post κs a one s → shape-of-number-reads.Post κs a other t → one ≡ other
+  shape_of_number_determined p q = one-outcome (Option Shape) _ _ _ p q
 
 module _ (κs : Lfts 0) (a : ArgsD number.signature κs) (one other : ℕ) (s t : AtExit (ended_of 0 number-kinds.ps number-kinds.r) κs) where
   pub number_determined : number-reads.Post κs a one s → number-reads.Post κs a other t → one ≡ other

@@ -5,21 +5,23 @@ use lib.Seq.{set-get_or}
 use Rattle.rules.specs.Sizes.{written}
 use Rattle.rules.specs.Entry.{entry_of}
 use Rattle.rules.specs.Word.{read_word, write_word}
-use Rattle.rules.specs.Life.{idle, given, micro_step, moves}
+use Rattle.rules.specs.Life.{idle, given, micro_step, moves, stays}
 use Rattle.rules.specs.Ranges.{core_at}
 use Rattle.rules.specs.Refusals.{no_refusal, refusal_number, number_in}
-use Rattle.rules.specs.Calls.{Outcome, outcome, refused, answered, started, with_core, start_refusal, start_of, give_refusal, give_of, step_refusal, step_of, stepped, micro_step_at, word_refusal, poke_of}
+use Rattle.rules.specs.Calls.{Outcome, outcome, refused, answered, started, with_core, start_refusal, start_of, give_refusal, give_of, step_refusal, step_of, stepped, micro_step_at, word_refusal, poke_record, poke_of}
 use Rattle.rules.specs.Laws.{Sound, AsFound}
 use Rattle.rules.specs.History.{History, link_of, owner_of}
-use Rattle.rules.specs.Kinds.{poke_core, poke_kind}
+use Rattle.rules.specs.Operations.{address_of}
 use Rattle.rules.specs.Reference.{Whole, access_of, refer, operations_of, answers_of}
-use Rattle.rules.specs.Runs.{Call, step, give, poke, act, Fresh, after, records, given_to, delivered_to, in_order, taken, delivers}
+use Rattle.rules.specs.Runs.{Call, step, give, poke, act, Fresh, after, records, given_to, delivered_to, in_order, with_given, delivers}
 use Rattle.rules.specs.declared.entry.GuestAddress.{GuestAddress}
-use Rattle.rules.specs.declared.answers.Operation.{Operation}
+use Rattle.rules.specs.declared.operations.Operation.{Operation}
 use Rattle.rules.specs.declared.answers.Record.{Record}
 use Rattle.rules.specs.declared.refusals.Refusal.{Refusal}
 use Rattle.rules.specs.declared.answers.Answer.{Answer}
-use Rattle.rules.specs.declared.answers.Answer.TheVariants as Answered
+use Rattle.rules.specs.declared.answers.Answer.TheVariants.{Taken, Waits, Done, Poked}
+use Rattle.rules.specs.declared.answers.Delivered.{Delivered}
+use Rattle.rules.specs.declared.answers.Delivered.TheVariants as Answered
 use Rattle.rules.specs.declared.cores.Core.{Core}
 use Rattle.rules.specs.declared.cores.MicroStep.{MicroStep}
 use Rattle.rules.specs.declared.state.Machine.{Machine}
@@ -28,11 +30,11 @@ use Rattle.rules.proofs.Kept.{idle_anywhere}
 use Rattle.rules.proofs.Lawful.{refusal_laws, range_laws, started_sound}
 use Rattle.rules.proofs.Numbers.{by_zero, by_tested, refusals_numbered}
 use Rattle.rules.proofs.Bools.{and_false, if_same}
-use Rattle.rules.proofs.Phases.{Locked, place_of, Phase, rests, loads, asks, holds, reaches, leaves, picture, load_step_lem, ask_step, hold_step, reach_step, leave_step_lem}
+use Rattle.rules.proofs.Phases.{Locked, place_of, Phase, rests, loads, asks, holds, reaches, ends, picture, load_step_lem, ask_step, hold_step, reach_step, leave_step_lem}
 use Rattle.rules.proofs.Running.{CoreOk, Inv, Next, no_mark}
 use Rattle.rules.proofs.Transitions.{carried, given_next, poked_next, loaded_next, lock_next, mark_next, access_next, leave_next, judged_right}
 
--- a call leaves the state in its ranges, and the buffers of its sizes, as it found them
+-- a call ends the state in its ranges, and the buffers of its sizes, as it found them
 found_sound : (x o : Outcome) → AsFound x o.called.machine o.memory o.owners o.holders → Sound o → Sound x
 found_sound x o f s = record { ranges = rw f.machine_as_found s.ranges; lengths = rw (f.machine_as_found, f.memory_as_found, f.owners_as_found, f.holders_as_found) s.lengths }
 
@@ -51,7 +53,7 @@ sound_act o s (poke a v) =
     (range_laws.poke_sound o.called.machine o.memory a v o.owners o.holders s.lengths)
     (λ f. found_sound (outcome (poke_of o.called.machine o.memory a v).called (poke_of o.called.machine o.memory a v).memory o.owners o.holders) o (refusal_laws.poke_as_found o.called.machine o.memory a v o.owners o.holders f) s)
 
--- what a step that is not refused leaves, by the core that makes it and by its micro-step
+-- what a step that is not refused ends, by the core that makes it and by its micro-step
 stepped_as : (n : ℕ) (o : Outcome) (c : ℕ) (core : Core) (s : MicroStep) → o.called.machine.entries ≡ n → step_refusal o.called.machine (length o.memory) o.owners o.holders c ≡ no_refusal
     → core_at o.called.machine c ≡ core
     → micro_step c core (get_or o.owners (entry_of n core.address).0 0) (get_or o.holders (entry_of n core.address).0 0) (read_word o.memory core.address) ≡ s
@@ -63,7 +65,7 @@ stepped_as n o c core s same z p q = rw (z, p, same, q)
 -- what the other calls leave
 module _ (o : Outcome) where
   give_done : (c : ℕ) (op : Operation) → give_refusal o.called.machine c op ≡ no_refusal
-      → act o (give c op) ≡ outcome (answered Answered.Taken (with_core o.called.machine c (given (core_at o.called.machine c) op))) o.memory o.owners o.holders
+      → act o (give c op) ≡ outcome (answered Taken (with_core o.called.machine c (given (core_at o.called.machine c) op))) o.memory o.owners o.holders
   unfolding act give_of
   give_done c op z = rw z
 
@@ -76,7 +78,7 @@ module _ (o : Outcome) where
   step_refused c r z = rw z
 
   poke_done : (a : GuestAddress) (v : ℕ) → word_refusal o.called.machine (length o.memory) a ≡ no_refusal
-      → act o (poke a v) ≡ outcome (record { answer = Ok Answered.Poked; made = Some (access_of poke_core poke_kind a v); machine = o.called.machine }) (write_word o.memory a v) o.owners o.holders
+      → act o (poke a v) ≡ outcome (record { answer = Ok Poked; made = Some (poke_record a v); machine = o.called.machine }) (write_word o.memory a v) o.owners o.holders
   unfolding act poke_of
   poke_done a v z = rw z
 
@@ -84,18 +86,18 @@ module _ (o : Outcome) where
   unfolding act poke_of
   poke_refused a v r z = rw z
 
-module _ (n : ℕ) (zeros : List ℕ) (o : Outcome) (h : History) (ws : List Whole) (gs : ℕ → List Operation) (ds : ℕ → List Answer) (inv : Inv n zeros o h ws gs ds) where
+module _ (n : ℕ) (zeros : List ℕ) (o : Outcome) (h : History) (ws : List Whole) (gs : ℕ → List Operation) (ds : ℕ → List Delivered) (inv : Inv n zeros o h ws gs ds) where
   abbrev After : Call → Outcome → Type 0
   After call x = Next n zeros call h ws gs ds x
 
-  -- along an equation for what the call leaves
+  -- along an equation for what the call ends
   leaves_as : (call : Call) (x : Outcome) → act o call ≡ x → (Sound x → After call x) → After call (act o call)
   leaves_as call x e f = subst (After call) (sym e) (f (subst Sound e (sound_act o inv.sound call)))
 
   -- a call that is refused
   refused_give : (c : ℕ) (op : Operation) (r : Refusal) → After (give c op) (outcome (refused r o.called.machine) o.memory o.owners o.holders)
   refused_give c op r =
-      carried n zeros o h ws gs ds inv (Err r) None (λ i. taken i (give c op) (Err r) (gs i)) ds (λ i. rw (ne_eqb (refusal_number r) 0 (refusals_numbered r), and_false (eqb c i))) (λ i. refl)
+      carried n zeros o h ws gs ds inv (Err r) None (λ i. with_given i (give c op) (Err r) (gs i)) ds (λ i. rw (ne_eqb (refusal_number r) 0 (refusals_numbered r), and_false (eqb c i))) (λ i. refl)
 
   refused_step : (c : ℕ) (r : Refusal) → After (step c) (outcome (refused r o.called.machine) o.memory o.owners o.holders)
   refused_step c r = carried n zeros o h ws gs ds inv (Err r) None gs (λ i. delivers i (step c) (Err r) (ds i)) (λ i. refl) (λ i. if_same (eqb c i))
@@ -157,25 +159,27 @@ module _ (n : ℕ) (zeros : List ℕ) (o : Outcome) (h : History) (ws : List Who
 
     -- waiting changes nothing
     abbrev waiting : Locked → MicroStep
-    waiting l = record { answer = Answered.Waits; made = None; core = picture (asks l) (link_of c h); owner = ownerHere (place_of l); holder = holderHere (place_of l); writes = false }
+    waiting l = stays Waits (picture (asks l) (link_of c h)) (ownerHere (place_of l)) (holderHere (place_of l))
 
     waited : (l : Locked) → core_at o.called.machine c ≡ picture (asks l) (link_of c h)
-        → outcome (record { answer = Ok Answered.Waits; made = None; machine = with_core o.called.machine c (picture (asks l) (link_of c h)) }) o.memory
+        → outcome (record { answer = Ok Waits; made = None; machine = with_core o.called.machine c (picture (asks l) (link_of c h)) }) o.memory
         (set o.owners (entry_of n (place_of l)).0 (ownerHere (place_of l))) (set o.holders (entry_of n (place_of l)).0 (holderHere (place_of l)))
-        ≡ outcome (record { answer = Ok Answered.Waits; made = None; machine = o.called.machine }) o.memory o.owners o.holders
+        ≡ outcome (record { answer = Ok Waits; made = None; machine = o.called.machine }) o.memory o.owners o.holders
     waited l p =
-        marks_kept Answered.Waits None (picture (asks l) (link_of c h)) (entry_of n (place_of l)).0
-        ∙ ap (λ (m : Machine). outcome (record { answer = Ok Answered.Waits; made = None; machine = m }) o.memory o.owners o.holders) (machine_same (picture (asks l) (link_of c h)) p)
+        marks_kept Waits None (picture (asks l) (link_of c h)) (entry_of n (place_of l)).0
+        ∙ ap (λ (m : Machine). outcome (record { answer = Ok Waits; made = None; machine = m }) o.memory o.owners o.holders) (machine_same (picture (asks l) (link_of c h)) p)
 
-    waits_next : After (step c) (outcome (record { answer = Ok Answered.Waits; made = None; machine = o.called.machine }) o.memory o.owners o.holders)
-    waits_next = carried n zeros o h ws gs ds inv (Ok Answered.Waits) None gs (λ i. delivers i (step c) (Ok Answered.Waits) (ds i)) (λ i. refl) (λ i. if_same (eqb c i))
+    waits_next : After (step c) (outcome (record { answer = Ok Waits; made = None; machine = o.called.machine }) o.memory o.owners o.holders)
+    waits_next = carried n zeros o h ws gs ds inv (Ok Waits) None gs (λ i. delivers i (step c) (Ok Waits) (ds i)) (λ i. refl) (λ i. if_same (eqb c i))
 
     by_phase : (p : Phase) → CoreOk n zeros o h ws c p (gs c) (ds c) → After (step c) (act o (step c))
     by_phase rests ok = absurd (true≢false (sym accepted.busy ∙ ap (λ (y : Core). y.busy) ok.core))
-    by_phase (loads a) ok =
-        leaves_stepped (picture (loads a) (link_of c h)) _ ok.core (load_step_lem c (link_of c h) (ownerHere a) (holderHere a) (read_word o.memory a) a)
-        (λ s. subst (After (step c)) (sym (marks_kept (Answered.Load (read_word o.memory a)) (Some (access_of c 1 a (read_word o.memory a))) (picture rests (link_of c h)) (entry_of n a).0))
-        (loaded_next n zeros o h ws gs ds inv c a small ok (subst Sound (marks_kept (Answered.Load (read_word o.memory a)) (Some (access_of c 1 a (read_word o.memory a))) (picture rests (link_of c h)) (entry_of n a).0) s)))
+    by_phase (loads l) ok =
+        let a = address_of l.operation in
+        let answer = Done (Answered.Load (read_word o.memory a)) in
+        let kept = marks_kept answer (Some (access_of c l.operation false (read_word o.memory a))) (picture rests (link_of c h)) (entry_of n a).0 in
+        leaves_stepped (picture (loads l) (link_of c h)) _ ok.core (load_step_lem c (link_of c h) (ownerHere a) (holderHere a) (read_word o.memory a) l)
+        (λ s. subst (After (step c)) (sym kept) (loaded_next n zeros o h ws gs ds inv c l small ok (subst Sound kept s)))
     by_phase (asks l) ok = free_or_not (eqb (holderHere (place_of l)) 0) refl
       where
         step_one : micro_step c (picture (asks l) (link_of c h)) (ownerHere (place_of l)) (holderHere (place_of l)) (read_word o.memory (place_of l))
@@ -199,9 +203,9 @@ module _ (n : ℕ) (zeros : List ℕ) (o : Outcome) (h : History) (ws : List Who
         leaves_stepped (picture (reaches l passed) (link_of c h)) _ ok.core (reach_step c (link_of c h) (ownerHere (place_of l)) (holderHere (place_of l)) (read_word o.memory (place_of l)) l passed)
         (access_next n zeros o h ws gs ds inv c small accepted.core_below (entry_of n (place_of l)).0 there.1 there.2 (inr ok.table.0) l passed refl ok (ok.table.0, ok.table.1)
         (judged_right (entry_of n) h c l passed ok.table.2))
-    by_phase (leaves l passed read) ok =
+    by_phase (ends l passed read) ok =
         let there = entry_there (place_of l) in
-        leaves_stepped (picture (leaves l passed read) (link_of c h)) _ ok.core (leave_step_lem c (link_of c h) (ownerHere (place_of l)) (holderHere (place_of l)) (read_word o.memory (place_of l)) l passed read)
+        leaves_stepped (picture (ends l passed read) (link_of c h)) _ ok.core (leave_step_lem c (link_of c h) (ownerHere (place_of l)) (holderHere (place_of l)) (read_word o.memory (place_of l)) l passed read)
         (leave_next n zeros o h ws gs ds inv c small accepted.core_below (entry_of n (place_of l)).0 there.1 there.2 (inr ok.table.0) l passed read refl ok ok.table)
 
   next_step : (c : ℕ) → After (step c) (act o (step c))

@@ -1,15 +1,15 @@
 -- A store-conditional succeeds exactly if its core's link is its address and the owner of its entry is its core: the key of the run. The entry rule is any.
 -- Assumes nothing.
-use Rattle.std.proofs.Common.{◌≡◌, ℕ, Bool, true, false, not, ◌&&◌, ◌||◌, eqb, [], ◌∷◌, sym, refl, ap, ◌∙◌, arith, eq-eqb, ne_eqb, eqb-true, if◌then◌else◌}
-use mathlib.Core.Bool.{false≢true}
+use Rattle.std.proofs.Common.{◌≡◌, ℕ, Bool, true, false, not, ◌&&◌, eqb, [], ◌∷◌, sym, refl, ap, ◌∙◌, arith, eq-eqb, ne_eqb, eqb-true, if◌then◌else◌}
 use borrow.Author.Tests.{eqb-false}
 use Rattle.rules.specs.Sizes.{written}
-use Rattle.rules.specs.Kinds.{links_kind, unlinks_kind}
-use Rattle.rules.specs.History.{History, succeeds, Link, no_link, link_of, owner_after, owner_of}
+use Rattle.rules.specs.Kinds.{LinkRule, keeps, links, unlinks, leaves, KindRule, rule_at, linking, unlinking, spoiling, mark_after}
+use Rattle.rules.specs.History.{History, succeeds, Link, no_link, link_of, owner_of}
 use Rattle.rules.specs.declared.entry.GuestAddress.{GuestAddress}
 use Rattle.rules.specs.declared.entry.EntryNumber.{EntryNumber}
 use Rattle.rules.specs.declared.answers.Record.{Record}
 use Rattle.rules.proofs.Bools.{and_false, if_same}
+use Rattle.rules.proofs.Shapes.{by_rule}
 
 -- what one more access does to links and owner marks
 module _ (i : ℕ) (r : Record) (h : History) where
@@ -17,30 +17,37 @@ module _ (i : ℕ) (r : Record) (h : History) where
   unfolding link_of
   link_other other = rw (ne_eqb r.core i other)
 
-  pub link_quiet : links_kind r.kind ≡ false → unlinks_kind r.kind ≡ false → link_of i (r ∷ h) ≡ link_of i h
-  unfolding link_of
-  link_quiet p q = rw (p, q, and_false (eqb r.core i))
+  -- what it leaves its core with, by its kind's rule
+  abbrev pub link_after : LinkRule → Link
+  link_after keeps = link_of i h
+  link_after links = record { linked = true; link = r.address }
+  link_after unlinks = no_link
 
-  pub link_ll : r.core ≡ i → r.kind ≡ 2 → link_of i (r ∷ h) ≡ record { linked = true; link = r.address }
+  pub link_own : r.core ≡ i → link_of i (r ∷ h) ≡ link_after (rule_at r.kind).link
   unfolding link_of
-  link_ll p q = rw (eq-eqb _ _ p, eq-eqb _ _ q)
+  link_own p = rw (eq-eqb _ _ p) (go (rule_at r.kind).link)
+    where
+      go : (l : LinkRule) → (if linking l then record { linked = true; link = r.address } else if unlinking l then no_link else link_of i h) ≡ link_after l
+      go keeps = refl
+      go links = refl
+      go unlinks = refl
 
-  pub link_sc : r.core ≡ i → links_kind r.kind ≡ false → unlinks_kind r.kind ≡ true → link_of i (r ∷ h) ≡ no_link
+  pub link_quiet : (rule_at r.kind).link ≡ keeps → link_of i (r ∷ h) ≡ link_of i h
   unfolding link_of
-  link_sc p q u = rw (eq-eqb r.core i p, q, u)
+  link_quiet p = rw (p, and_false (eqb r.core i))
 
 module _ (entry : GuestAddress → EntryNumber) (e : ℕ) (r : Record) (h : History) where
   pub owner_elsewhere : ((entry r.address).0 ≡ e → ⊥) → owner_of entry e (r ∷ h) ≡ owner_of entry e h
   unfolding owner_of
   owner_elsewhere other = rw (ne_eqb (entry r.address).0 e other)
 
-  pub owner_here : (entry r.address).0 ≡ e → owner_of entry e (r ∷ h) ≡ owner_after r (owner_of entry e h)
+  pub owner_here : (entry r.address).0 ≡ e → owner_of entry e (r ∷ h) ≡ mark_after (rule_at r.kind).mark r.core (owner_of entry e h)
   unfolding owner_of
   owner_here here = rw (eq-eqb (entry r.address).0 e here)
 
-  pub owner_quiet : eqb r.kind 2 ≡ false → eqb r.kind 3 ≡ false → eqb r.kind 4 ≡ false → owner_of entry e (r ∷ h) ≡ owner_of entry e h
-  unfolding owner_of owner_after
-  owner_quiet p q u = rw (p, q, u) (if_same (eqb (entry r.address).0 e))
+  pub owner_quiet : (rule_at r.kind).mark ≡ leaves → owner_of entry e (r ∷ h) ≡ owner_of entry e h
+  unfolding owner_of
+  owner_quiet p = rw p (if_same (eqb (entry r.address).0 e))
 
 -- The key: a store-conditional succeeds exactly if its core's link is its address and the owner of its entry is its core.
 module _ (entry : GuestAddress → EntryNumber) (c : ℕ) (a : GuestAddress) where
@@ -72,47 +79,49 @@ module _ (entry : GuestAddress → EntryNumber) (c : ℕ) (a : GuestAddress) whe
       go true p = ap ownerHere (eqb-true owner (written k) p) ∙ not_mine k other
       go false p = no_mark
 
-  -- one access more, by the tests that the three functions make of it
+  -- one access more, by its kind's rule
   module _ (r : Record) (h : History) (ih : succeeds entry c a h ≡ linkThere (link_of c h) && ownerHere (owner_of entry (entry a).0 h)) where
-    abbrev Claim : (own two three four ends same : Bool) → Type 0
-    Claim own two three four ends same =
-        (if own && two then eqb r.address.0 a.0 else if own && ends then false else if not own && (two || (three || four)) && same then false else succeeds entry c a h)
-        ≡ linkThere (if own && two then record { linked = true; link = r.address } else if own && ends then no_link else link_of c h)
-        && ownerHere (if same then (if two then written r.core
-        else if three then (if eqb (owner_of entry (entry a).0 h) (written r.core) then owner_of entry (entry a).0 h else 0)
-        else if four then 0 else owner_of entry (entry a).0 h) else owner_of entry (entry a).0 h)
+    abbrev owner : ℕ
+    owner = owner_of entry (entry a).0 h
 
-    mine : (two three four ends same : Bool) → (four ≡ true → ends ≡ true) → r.core ≡ c → eqb (entry r.address).0 (entry a).0 ≡ same → Claim true two three four ends same
-    mine true three four ends same success e s = go (eqb r.address.0 a.0) refl
+    abbrev Claim : (own same : Bool) (rule : KindRule) → Type 0
+    Claim own same rule =
+        (if own && linking rule.link then eqb r.address.0 a.0 else if own && unlinking rule.link then false else if not own && spoiling rule.mark && same then false else succeeds entry c a h)
+        ≡ linkThere (if own && linking rule.link then record { linked = true; link = r.address } else if own && unlinking rule.link then no_link else link_of c h)
+        && ownerHere (if same then mark_after rule.mark r.core owner else owner)
+
+    -- this core's access: only its ll and its own store touch what is asked
+    mine : r.core ≡ c → (same : Bool) → eqb (entry r.address).0 (entry a).0 ≡ same → (kind : ℕ) → Claim true same (rule_at kind)
+    mine e same s = by_rule (Claim true same) (quiet same) (new_link (eqb r.address.0 a.0) refl) (own same) refl refl (quiet same) (quiet same)
       where
-        mark : (t : Bool) → t ≡ true → ownerHere (if t then written r.core else owner_of entry (entry a).0 h) ≡ true
+        quiet : (t : Bool) → succeeds entry c a h ≡ linkThere (link_of c h) && ownerHere (if t then owner else owner)
+        quiet true = ih
+        quiet false = ih
+
+        own : (t : Bool) → succeeds entry c a h ≡ linkThere (link_of c h) && ownerHere (if t then if eqb owner (written r.core) then owner else 0 else owner)
+        own true = rw (own_store r.core owner e) ih
+        own false = ih
+
+        mark : (t : Bool) → t ≡ true → ownerHere (if t then written r.core else owner) ≡ true
         mark t p = rw p (eq-eqb (written r.core) (written c) (ap written e))
 
-        go : (t : Bool) → eqb r.address.0 a.0 ≡ t → t ≡ t && ownerHere (if same then written r.core else owner_of entry (entry a).0 h)
-        go true p = sym (mark same (sym s ∙ eq-eqb (entry r.address).0 (entry a).0 (ap (λ (b : GuestAddress). (entry b).0) (λ i. record { 0 = eqb-true r.address.0 a.0 p i }))))
-        go false p = refl
-    mine false three four true same success e s = refl
-    mine false three true false same success e s = absurd (false≢true (success refl))
-    mine false three false false false success e s = ih
-    mine false true false false true success e s = rw (own_store r.core (owner_of entry (entry a).0 h) e) ih
-    mine false false false false true success e s = ih
+        new_link : (t : Bool) → eqb r.address.0 a.0 ≡ t → t ≡ t && ownerHere (if same then written r.core else owner)
+        new_link true p = sym (mark same (sym s ∙ eq-eqb (entry r.address).0 (entry a).0 (ap (λ (b : GuestAddress). (entry b).0) (λ i. record { 0 = eqb-true r.address.0 a.0 p i }))))
+        new_link false p = refl
 
-    theirs : (two three four ends same : Bool) → (r.core ≡ c → ⊥) → Claim false two three four ends same
-    theirs two three four ends false e = rw (and_false (two || (three || four))) ih
-    theirs true three four ends true e = rw (not_mine r.core e) (sym (and_false (linkThere (link_of c h))))
-    theirs false true four ends true e = rw (other_store r.core (owner_of entry (entry a).0 h) e) (sym (and_false (linkThere (link_of c h))))
-    theirs false false true ends true e = rw no_mark (sym (and_false (linkThere (link_of c h))))
-    theirs false false false ends true e = ih
+    -- another core's: what leaves the mark leaves all as it was, and after what does not the mark is not this core's
+    theirs : (r.core ≡ c → ⊥) → (same : Bool) (kind : ℕ) → Claim false same (rule_at kind)
+    theirs e false = by_rule (Claim false false) ih ih ih ih ih ih ih
+    theirs e true = by_rule (Claim false true) ih (spoilt (not_mine r.core e)) (spoilt (other_store r.core owner e)) (spoilt no_mark) ih ih ih
+      where
+        spoilt : {mark : Bool} → mark ≡ false → false ≡ linkThere (link_of c h) && mark
+        spoilt p = rw p (sym (and_false (linkThere (link_of c h))))
 
-    -- a successful sc is an sc
-    success_unlinks : eqb r.kind 4 ≡ true → unlinks_kind r.kind ≡ true
-    success_unlinks p = rw p
-
-    whose : (own : Bool) → eqb r.core c ≡ own → Claim own (eqb r.kind 2) (eqb r.kind 3) (eqb r.kind 4) (unlinks_kind r.kind) (eqb (entry r.address).0 (entry a).0)
-    whose true e = mine (eqb r.kind 2) (eqb r.kind 3) (eqb r.kind 4) (unlinks_kind r.kind) (eqb (entry r.address).0 (entry a).0) success_unlinks (eqb-true r.core c e) refl
-    whose false e = theirs (eqb r.kind 2) (eqb r.kind 3) (eqb r.kind 4) (unlinks_kind r.kind) (eqb (entry r.address).0 (entry a).0) (eqb-false r.core c e)
+    whose : (own : Bool) → eqb r.core c ≡ own → Claim own (eqb (entry r.address).0 (entry a).0) (rule_at r.kind)
+    whose true e = mine (eqb-true r.core c e) (eqb (entry r.address).0 (entry a).0) refl r.kind
+    whose false e = theirs (eqb-false r.core c e) (eqb (entry r.address).0 (entry a).0) r.kind
 
   pub link_and_owner : (h : History) → succeeds entry c a h ≡ linkThere (link_of c h) && ownerHere (owner_of entry (entry a).0 h)
-  unfolding succeeds link_of owner_of owner_after
+  unfolding succeeds link_of owner_of
   link_and_owner [] = refl
   link_and_owner (r ∷ h) = whose r h (link_and_owner h) (eqb r.core c) refl

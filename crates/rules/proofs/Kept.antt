@@ -1,33 +1,26 @@
 -- A core that fits still fits after it is given an operation and after each of its micro-steps, and so does the machine that holds it.
 -- Assumes nothing.
-use Rattle.std.proofs.Common.{◌≡◌, ℕ, zero, suc, ◌<◌, ◌≤◌, Bool, true, false, not, ◌||◌, eqb, ltb, leb, ◌⊎◌, List, length, get_or, set, replicate, refl, ap, ◌∙◌, inl, inr, ⊎_elim, arith, get_or-set_other, get_or-set_same, ltb-false, ltb-true, lt-ltb, eq-eqb, eqb-true, leb-true, if◌then◌else◌}
+use Rattle.std.proofs.Common.{◌≡◌, ℕ, zero, suc, ◌<◌, Bool, true, false, not, ◌||◌, eqb, ltb, leb, List, length, get_or, set, replicate, Option, Some, None, refl, ap, ◌∙◌, get_or-set_other, get_or-set_same, ltb-false, ltb-true, lt-ltb, eq-eqb, eqb-true, if◌then◌else◌}
 use lib.Seq.{set_out}
 use borrow.Author.Tests.{eqb-false}
-use Rattle.rules.specs.Kinds.{is_load, is_ll, is_store, address_of}
-use Rattle.rules.specs.Life.{resting, idle, given, advanced, judged, passes, micro_step, load_step, lock_step, mark_step, access_step, ll_access, sc_access}
+use Rattle.rules.specs.Operations.{address_of, shape_of}
+use Rattle.rules.specs.Life.{resting, idle, given, advanced, judged, passes, step_by, micro_step, load_step, lock_step, mark_step, access_step, ll_access, sc_access}
 use Rattle.rules.specs.Ranges.{value_fields, link_fields, operation_occurs, step_occurs, operation_fits, inside, place_fits, core_fits, core_at, every_core_fits, sizes_fit, in_ranges}
 use Rattle.rules.specs.Calls.{all_idle, with_core}
 use Rattle.rules.specs.Sizes.{cores_fit, bytes_fit, entries_fit}
-use Rattle.rules.specs.declared.answers.Operation.{Operation}
-use Rattle.rules.specs.declared.answers.Operation.TheVariants.{Load, Ll, Store, Sc}
+use Rattle.rules.specs.declared.operations.Operation.{Operation}
+use Rattle.rules.specs.declared.operations.Operation.TheVariants as Asked
+use Rattle.rules.specs.declared.operations.Shape.{Shape}
+use Rattle.rules.specs.declared.operations.Shape.TheVariants.{Load, Locks}
+use Rattle.rules.specs.declared.operations.Locking.{Locking}
+use Rattle.rules.specs.declared.operations.Locking.TheVariants.{Ll, Store, Sc}
 use Rattle.rules.specs.declared.cores.Core.{Core}
 use Rattle.rules.specs.declared.cores.MicroStep.{MicroStep}
 use Rattle.rules.specs.declared.state.Machine.{Machine}
 use Rattle.rules.proofs.Bools.{all_below_lem, and₂, and₃, or_true, in_use}
 use Rattle.rules.proofs.Accepted.{Fits, fits, Inside, core_fits_lem}
 use Rattle.rules.proofs.Numbers.{of_both}
-
--- an operation that occurs and is no load
-pub which : (operation : ℕ) → operation_occurs operation ≡ true → is_load operation ≡ false → (operation ≡ 2) ⊎ ((operation ≡ 3) ⊎ (operation ≡ 4))
-which operation h o = go (eqb operation 2) refl (eqb operation 3) refl
-  where
-    range : (1 ≤ operation) × (operation ≤ 4)
-    range = let t = and₂ (leb 1 operation) (leb operation 4) h in (leb-true _ _ t.0, leb-true _ _ t.1)
-
-    go : (t : Bool) → eqb operation 2 ≡ t → (u : Bool) → eqb operation 3 ≡ u → (operation ≡ 2) ⊎ ((operation ≡ 3) ⊎ (operation ≡ 4))
-    go true p u q = inl (eqb-true _ _ p)
-    go false p true q = inr (inl (eqb-true _ _ q))
-    go false p false q = inr (inr (omega (arith, eqb-false operation 2 p, eqb-false operation 3 q, eqb-false operation 1 o, range)))
+use Rattle.rules.proofs.Shapes.{shape_given}
 
 -- the tests together again
 pub all_fit : {count bytes i : ℕ} (c : Core) → Fits count bytes i c → core_fits count bytes i c ≡ true
@@ -76,42 +69,37 @@ module _ {count bytes i : ℕ} (c : Core) (l : i < count) (f : Fits count bytes 
   onward c' busy op address step value link near =
       middle c' (busy ∙ b) (ap operation_occurs op ∙ occurs.0) (ap (λ (k : ℕ). step_occurs k c'.next) op ∙ step) value link (ap (inside bytes) address ∙ address_inside) near
 
-  -- every operation but a load has the steps 2 to 4
-  has_step : (next : ℕ) → leb 2 next ≡ true → leb next 4 ≡ true → is_load c.operation ≡ false → step_occurs c.operation next ≡ true
-  has_step next low high o = rw (o, low, high) (or_true (eqb next 1))
+  -- an operation that takes the lock
+  module _ (s : Locking) (e : shape_of c.operation ≡ Some (Locks s)) where
+    -- it has the steps 2 to 4
+    has_step : (next : ℕ) → leb 2 next ≡ true → leb next 4 ≡ true → step_occurs c.operation next ≡ true
+    has_step next low high = rw (e, low, high) (or_true (eqb next 1))
 
-  module _ (o : is_load c.operation ≡ false) where
-    locked : (c.operation ≡ 2) ⊎ ((c.operation ≡ 3) ⊎ (c.operation ≡ 4))
-    locked = which c.operation occurs.0 o
-
+    -- at its next step with the same fields
     lock_kept : c.next ≡ 1 → core_fits count bytes i (advanced c 2) ≡ true
-    lock_kept n =
-        onward (advanced c 2) refl refl refl (has_step 2 refl refl o)
-        (⊎_elim (λ k. rw (b, k) (rw (b, k, n) at f.value_fields_lem)) (⊎_elim (λ k. rw (b, k) (rw (b, k, n) at f.value_fields_lem)) (λ k. rw (b, k) (rw (b, k, n) at f.value_fields_lem))) locked)
-        f.link_fields_lem link_inside
+    lock_kept n = onward (advanced c 2) refl refl refl (has_step 2 refl refl) (go s e) f.link_fields_lem link_inside
+      where
+        go : (l : Locking) → shape_of c.operation ≡ Some (Locks l) → value_fields (advanced c 2) ≡ true
+        go Ll k = rw (b, k) (rw (b, k, n) at f.value_fields_lem)
+        go Store k = rw (b, k) (rw (b, k) at f.value_fields_lem)
+        go Sc k = rw (b, k) (rw (b, k, n) at f.value_fields_lem)
 
-    mark_kept : c.next ≡ 2 → (c.operation ≡ 2) ⊎ (c.operation ≡ 3) → core_fits count bytes i (advanced c 3) ≡ true
-    mark_kept n w =
-        onward (advanced c 3) refl refl refl (has_step 3 refl refl o)
-        (⊎_elim (λ (k : c.operation ≡ 2). rw (b, k) (rw (b, k, n) at f.value_fields_lem)) (λ (k : c.operation ≡ 3). rw (b, k) (rw (b, k) at f.value_fields_lem)) w)
-        f.link_fields_lem link_inside
+  mark_kept : (s : Locking) → shape_of c.operation ≡ Some (Locks s) → (owner holder : ℕ) → c.next ≡ 2 → core_fits count bytes i (mark_step s i c owner holder).core ≡ true
+  unfolding mark_step
+  mark_kept Ll e owner holder n = onward (advanced c 3) refl refl refl (has_step Ll e 3 refl refl) (rw (b, e) (rw (b, e, n) at f.value_fields_lem)) f.link_fields_lem link_inside
+  mark_kept Store e owner holder n = onward (advanced c 3) refl refl refl (has_step Store e 3 refl refl) (rw (b, e) (rw (b, e) at f.value_fields_lem)) f.link_fields_lem link_inside
+  mark_kept Sc e owner holder n =
+      onward (judged c (passes i c owner)) refl refl refl (has_step Sc e 3 refl refl)
+      (rw (b, e, (and₂ (eqb c.read 0) (not c.passed) (rw (b, e, n) at f.value_fields_lem)).0))
+      f.link_fields_lem link_inside
 
-    judged_kept : (passed : Bool) → c.next ≡ 2 → c.operation ≡ 4 → core_fits count bytes i (judged c passed) ≡ true
-    judged_kept passed n k =
-        onward (judged c passed) refl refl refl (has_step 3 refl refl o)
-        (rw (b, k, (and₂ (eqb c.read 0) (not c.passed) (rw (b, k, n) at f.value_fields_lem)).0))
-        f.link_fields_lem link_inside
-
-    ll_kept : (word : ℕ) → c.next ≡ 3 → c.operation ≡ 2 → core_fits count bytes i (ll_access i c 0 0 word).core ≡ true
-    ll_kept word n k =
-        let old = and₃ (eqb c.value 0) (eqb c.read 0) (not c.passed) (rw (b, k, n) at f.value_fields_lem) in
-        onward (ll_access i c 0 0 word).core refl refl refl (has_step 4 refl refl o) (rw (b, k, old.0, old.2)) refl address_inside
-
-    store_kept : c.next ≡ 3 → c.operation ≡ 3 → core_fits count bytes i (advanced c 4) ≡ true
-    store_kept n k = onward (advanced c 4) refl refl refl (has_step 4 refl refl o) (rw (b, k) (rw (b, k) at f.value_fields_lem)) f.link_fields_lem link_inside
-
-    sc_kept : c.next ≡ 3 → c.operation ≡ 4 → core_fits count bytes i (sc_access i c 0 0).core ≡ true
-    sc_kept n k = onward (sc_access i c 0 0).core refl refl refl (has_step 4 refl refl o) (rw (b, k) (rw (b, k, n) at f.value_fields_lem)) refl refl
+  access_kept : (s : Locking) → shape_of c.operation ≡ Some (Locks s) → (owner holder word : ℕ) → c.next ≡ 3 → core_fits count bytes i (access_step s i c owner holder word).core ≡ true
+  unfolding access_step
+  access_kept Ll e owner holder word n =
+      let old = and₃ (eqb c.value 0) (eqb c.read 0) (not c.passed) (rw (b, e, n) at f.value_fields_lem) in
+      onward (ll_access i c 0 0 word).core refl refl refl (has_step Ll e 4 refl refl) (rw (b, e, old.0, old.2)) refl address_inside
+  access_kept Store e owner holder word n = onward (advanced c 4) refl refl refl (has_step Store e 4 refl refl) (rw (b, e) (rw (b, e) at f.value_fields_lem)) f.link_fields_lem link_inside
+  access_kept Sc e owner holder word n = onward (sc_access i c 0 0).core refl refl refl (has_step Sc e 4 refl refl) (rw (b, e) (rw (b, e, n) at f.value_fields_lem)) refl refl
 
 -- by a choice's test, with what it says
 pub of_cases : {A : Type 0} (P : A → Type 0) (t : Bool) {a b : A} → (t ≡ true → P a) → (t ≡ false → P b) → P (if t then a else b)
@@ -121,18 +109,8 @@ of_cases P false p q = q refl
 -- each micro-step
 pub micro_kept : (count bytes me : ℕ) (c : Core) (owner holder word : ℕ) → me < count → core_fits count bytes me c ≡ true → c.busy ≡ true
     → core_fits count bytes me (micro_step me c owner holder word).core ≡ true
-unfolding micro_step load_step lock_step mark_step access_step
-micro_kept count bytes me c owner holder word l h b =
-    of_cases P (is_load c.operation) (λ o. resting_fits c l f) (λ o.
-    of_cases P (eqb c.next 1) (λ n. of_both P (eqb holder 0) (lock_kept c l f b o (eqb-true _ _ n)) h) (λ n₁.
-    of_cases P (eqb c.next 2)
-    (λ n. let e = eqb-true _ _ n in
-    of_cases P (is_ll c.operation) (λ k. mark_kept c l f b o e (inl (eqb-true _ _ k))) (λ k₂.
-    of_cases P (is_store c.operation) (λ k. mark_kept c l f b o e (inr (eqb-true _ _ k))) (λ k₃. judged_kept c l f b o (passes me c owner) e (the_sc o k₂ k₃)))) (λ n₂.
-    of_cases P (eqb c.next 3)
-    (λ n. let e = eqb-true _ _ n in
-    of_cases P (is_ll c.operation) (λ k. ll_kept c l f b o word e (eqb-true _ _ k)) (λ k₂.
-    of_cases P (is_store c.operation) (λ k. store_kept c l f b o e (eqb-true _ _ k)) (λ k₃. sc_kept c l f b o e (the_sc o k₂ k₃)))) (λ n₃. resting_fits c l f))))
+unfolding micro_step load_step lock_step
+micro_kept count bytes me c owner holder word l h b = go (shape_of c.operation) refl
   where
     P : MicroStep → Type 0
     P s = core_fits count bytes me s.core ≡ true
@@ -140,11 +118,17 @@ micro_kept count bytes me c owner holder word l h b =
     f : Fits count bytes me c
     f = fits count bytes me c h
 
-    the_sc : is_load c.operation ≡ false → is_ll c.operation ≡ false → is_store c.operation ≡ false → c.operation ≡ 4
-    the_sc o k₂ k₃ = ⊎_elim (λ k. absurd (eqb-false c.operation 2 k₂ k)) (⊎_elim (λ k. absurd (eqb-false c.operation 3 k₃ k)) (λ k. k)) (locked c l f b o)
+    go : (s : Option Shape) → shape_of c.operation ≡ s → P (step_by s me c owner holder word)
+    go None e = h
+    go (Some Load) e = resting_fits c l f
+    go (Some (Locks s)) e =
+        of_cases P (eqb c.next 1) (λ n. of_both P (eqb holder 0) (lock_kept c l f b s e (eqb-true _ _ n)) h) (λ n₁.
+        of_cases P (eqb c.next 2) (λ n. mark_kept c l f b s e owner holder (eqb-true _ _ n)) (λ n₂.
+        of_cases P (eqb c.next 3) (λ n. access_kept c l f b s e owner holder word (eqb-true _ _ n)) (λ n₃. resting_fits c l f)))
 
 -- an operation given
 pub given_kept : {count bytes : ℕ} (i : ℕ) (c : Core) (o : Operation) → i < count → core_fits count bytes i c ≡ true → Inside bytes (address_of o) → core_fits count bytes i (given c o) ≡ true
+unfolding shape_of
 given_kept {count} {bytes} i c o l h at =
     all_fit (given c o)
     (record {
@@ -160,16 +144,13 @@ given_kept {count} {bytes} i c o l h at =
     f = fits count bytes i c h
 
     value : (o : Operation) → value_fields (given c o) ≡ true
-    value (Load a) = refl
-    value (Ll a) = refl
-    value (Store a v) = refl
-    value (Sc a v) = refl
+    value (Asked.Load a) = refl
+    value (Asked.Ll a) = refl
+    value (Asked.Store a v) = refl
+    value (Asked.Sc a v) = refl
 
     occurs_given : (o : Operation) → operation_fits (given c o) ≡ true
-    occurs_given (Load a) = refl
-    occurs_given (Ll a) = refl
-    occurs_given (Store a v) = refl
-    occurs_given (Sc a v) = refl
+    occurs_given o = rw (shape_given o)
 
 -- an element of a list with one element set is that one or the old one
 pub set_or_old : {A : Type 0} (P : A → Type 0) (list : List A) (i j : ℕ) (a d : A) → (j ≡ i → P a) → P (get_or list j d) → P (get_or (set list i a) j d)

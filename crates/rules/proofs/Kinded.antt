@@ -1,15 +1,18 @@
 -- A micro-step writes, links and ends its own link as the kind of its record says.
 -- Assumes nothing.
-use Rattle.std.proofs.Common.{◌≡◌, ℕ, Bool, true, false, eqb, refl, ⊎_elim, eqb-true, if◌then◌else◌}
-use borrow.Author.Tests.{eqb-false}
-use Rattle.rules.specs.Kinds.{is_load, is_ll, is_store, writes_kind, links_kind, unlinks_kind}
-use Rattle.rules.specs.Life.{nowhere, ll_access, store_access, sc_access, micro_step, load_step, lock_step, mark_step, access_step}
-use Rattle.rules.specs.Ranges.{operation_occurs}
+use Rattle.std.proofs.Common.{◌≡◌, ℕ, Bool, true, false, eqb, Option, Some, None, refl, ap, ◌∙◌}
+use Rattle.rules.specs.Kinds.{rule_at}
+use Rattle.rules.specs.Operations.{shape_of, kind_of}
+use Rattle.rules.specs.Life.{step_by, micro_step, load_step, lock_step, mark_step, access_step}
 use Rattle.rules.specs.Laws.{writes_made, linked_made, link_made, KindLaws}
+use Rattle.rules.specs.declared.operations.Shape.{Shape}
+use Rattle.rules.specs.declared.operations.Shape.TheVariants.{Load, Locks}
+use Rattle.rules.specs.declared.operations.Locking.{Locking}
+use Rattle.rules.specs.declared.operations.Locking.TheVariants.{Ll, Store, Sc}
 use Rattle.rules.specs.declared.cores.Core.{Core}
 use Rattle.rules.specs.declared.cores.MicroStep.{MicroStep}
 use Rattle.rules.proofs.Numbers.{of_both}
-use Rattle.rules.proofs.Kept.{which, of_cases}
+use Rattle.rules.proofs.Shapes.{shape_rule, rule_by_shape}
 
 -- as the kind of its record says, of a core
 pub record ByKind (c : Core) (s : MicroStep) : Type 0 where
@@ -17,46 +20,48 @@ pub record ByKind (c : Core) (s : MicroStep) : Type 0 where
   pub linked : s.core.linked ≡ linked_made s.made c
   pub link : s.core.link ≡ link_made s.made c
 
--- an sc's two kinds
-sc_writes : (passed : Bool) → passed ≡ writes_kind (if passed then 4 else 5)
-sc_writes true = refl
-sc_writes false = refl
-
-sc_unlinks : {A : Type 0} (passed : Bool) (ll sc other : A) → sc ≡ (if links_kind (if passed then 4 else 5) then ll else if unlinks_kind (if passed then 4 else 5) then sc else other)
-sc_unlinks true ll sc other = refl
-sc_unlinks false ll sc other = refl
-
 module _ (me : ℕ) (c : Core) (owner holder word : ℕ) where
-  at_ll : c.operation ≡ 2 → ByKind c (ll_access me c owner holder word)
-  at_ll k = record { writes = rw k; linked = rw k; link = rw k }
+  -- the rule of the kind that its access makes is its shape's
+  rule_is : {s : Option Shape} → shape_of c.operation ≡ s → rule_at (kind_of c.operation c.passed) ≡ shape_rule s c.passed
+  rule_is e = rule_by_shape c.operation c.passed ∙ ap (λ (s : Option Shape). shape_rule s c.passed) e
 
-  at_store : c.operation ≡ 3 → ByKind c (store_access me c owner holder)
-  at_store k = record { writes = rw k; linked = rw k; link = rw k }
+  quiet : {s : MicroStep} → s.made ≡ None → s.writes ≡ false → s.core.linked ≡ c.linked → s.core.link ≡ c.link → ByKind c s
+  quiet made writes linked link = record { writes = rw made writes; linked = rw made linked; link = rw made link }
 
-  at_sc : c.operation ≡ 4 → ByKind c (sc_access me c owner holder)
-  at_sc k = record { writes = rw k (sc_writes c.passed); linked = rw k (sc_unlinks c.passed true false c.linked); link = rw k (sc_unlinks c.passed c.address nowhere c.link) }
+  accessed : (l : Locking) → shape_of c.operation ≡ Some (Locks l) → ByKind c (access_step l me c owner holder word)
+  unfolding access_step
+  accessed Ll e = record { writes = rw (rule_is e); linked = rw (rule_is e); link = rw (rule_is e) }
+  accessed Store e = record { writes = rw (rule_is e); linked = rw (rule_is e); link = rw (rule_is e) }
+  accessed Sc e = go c.passed (rule_is e) refl
+    where
+      go : (p : Bool) → rule_at (kind_of c.operation c.passed) ≡ shape_rule (Some (Locks Sc)) p → c.passed ≡ p → ByKind c (access_step Sc me c owner holder word)
+      go true r q = record { writes = rw (r, q); linked = rw r; link = rw r }
+      go false r q = record { writes = rw (r, q); linked = rw r; link = rw r }
 
-  by_kind : operation_occurs c.operation ≡ true → ByKind c (micro_step me c owner holder word)
-  unfolding micro_step load_step lock_step mark_step access_step
-  by_kind occurs =
-      of_cases P (is_load c.operation) (λ o. record { writes = refl; linked = refl; link = refl }) (λ o.
-      of_both P (eqb c.next 1) (of_both P (eqb holder 0) (record { writes = refl; linked = refl; link = refl }) (record { writes = refl; linked = refl; link = refl }))
-      (of_both P (eqb c.next 2)
-      (of_both P (is_ll c.operation) (record { writes = refl; linked = refl; link = refl }) (of_both P (is_store c.operation) (record { writes = refl; linked = refl; link = refl }) (record { writes = refl; linked = refl; link = refl })))
-      (of_both P (eqb c.next 3)
-      (of_cases P (is_ll c.operation) (λ k. at_ll (eqb-true _ _ k)) (λ k₂. of_cases P (is_store c.operation) (λ k. at_store (eqb-true _ _ k)) (λ k₃. at_sc (the_sc o k₂ k₃))))
-      (record { writes = refl; linked = refl; link = refl }))))
+  marked : (l : Locking) → ByKind c (mark_step l me c owner holder)
+  unfolding mark_step
+  marked Ll = quiet refl refl refl refl
+  marked Store = quiet refl refl refl refl
+  marked Sc = quiet refl refl refl refl
+
+  by_kind : ByKind c (micro_step me c owner holder word)
+  unfolding micro_step load_step lock_step
+  by_kind = go (shape_of c.operation) refl
     where
       P : MicroStep → Type 0
       P s = ByKind c s
 
-      the_sc : is_load c.operation ≡ false → is_ll c.operation ≡ false → is_store c.operation ≡ false → c.operation ≡ 4
-      the_sc o k₂ k₃ = ⊎_elim (λ k. absurd (eqb-false c.operation 2 k₂ k)) (⊎_elim (λ k. absurd (eqb-false c.operation 3 k₃ k)) (λ k. k)) (which c.operation occurs o)
+      go : (s : Option Shape) → shape_of c.operation ≡ s → P (step_by s me c owner holder word)
+      go None e = quiet refl refl refl refl
+      go (Some Load) e = record { writes = rw (rule_is e); linked = rw (rule_is e); link = rw (rule_is e) }
+      go (Some (Locks l)) e =
+          of_both P (eqb c.next 1) (of_both P (eqb holder 0) (quiet refl refl refl refl) (quiet refl refl refl refl))
+          (of_both P (eqb c.next 2) (marked l) (of_both P (eqb c.next 3) (accessed l e) (quiet refl refl refl refl)))
 
 pub kind_laws : KindLaws
 kind_laws =
     record {
-      writes_by_kind = λ me c owner holder word occurs. (by_kind me c owner holder word occurs).writes;
-      linked_by_kind = λ me c owner holder word occurs. (by_kind me c owner holder word occurs).linked;
-      link_by_kind = λ me c owner holder word occurs. (by_kind me c owner holder word occurs).link;
+      writes_by_kind = λ me c owner holder word occurs. (by_kind me c owner holder word).writes;
+      linked_by_kind = λ me c owner holder word occurs. (by_kind me c owner holder word).linked;
+      link_by_kind = λ me c owner holder word occurs. (by_kind me c owner holder word).link;
     }

@@ -10,7 +10,7 @@ use Rattle.rules.specs.Refusals.{Tested, no_refusal, refusal_number, number_in, 
 use Rattle.rules.specs.Calls.{Outcome, outcome, PokeOutcome, poke_outcome, refused, answered, all_idle, lent_fits, entry_at, mark_at, started, taken, stepped, micro_step_at, poked, start_refusal, give_refusal, step_refusal, word_refusal, start_of, give_of, step_of, poke_of, show_of}
 use Rattle.rules.specs.Laws.{EntryLaws, AsFound, RefusalLaws, Sound, RangeLaws, OneOutcome}
 use Rattle.rules.specs.declared.entry.GuestAddress.{GuestAddress}
-use Rattle.rules.specs.declared.answers.Operation.{Operation}
+use Rattle.rules.specs.declared.operations.Operation.{Operation}
 use Rattle.rules.specs.declared.answers.Answer.{Answer}
 use Rattle.rules.specs.declared.refusals.Refusal.{Refusal}
 use Rattle.rules.specs.declared.answers.Answer.TheVariants.{Word}

@@ -3,6 +3,7 @@ pub mod Accepted
 pub mod Powers
 pub mod Numbers
 pub mod Words
+pub mod Shapes
 pub mod Kept
 pub mod Kinded
 pub mod Lawful

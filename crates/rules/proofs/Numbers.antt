@@ -6,7 +6,7 @@ use Rattle.rules.specs.Refusals.{Tested, no_refusal, refusal_number, number_in, 
 use Rattle.rules.specs.Word.{read_word}
 use Rattle.rules.specs.Calls.{Outcome, PokeOutcome, outcome, poke_outcome, refused, answered, all_idle, started, taken, stepped, poked, start_refusal, start_of, give_refusal, give_of, step_refusal, step_of, micro_step_at, word_refusal, poke_of, show_of}
 use Rattle.rules.specs.declared.entry.GuestAddress.{GuestAddress}
-use Rattle.rules.specs.declared.answers.Operation.{Operation}
+use Rattle.rules.specs.declared.operations.Operation.{Operation}
 use Rattle.rules.specs.declared.answers.Answer.{Answer}
 use Rattle.rules.specs.declared.refusals.Refusal.{Refusal}
 use Rattle.rules.specs.declared.answers.Answer.TheVariants.{Word}

@@ -1,8 +1,16 @@
 -- The values that document 01 gives each answer; its number is 0, and a refusal's is the refusal's (Refusals.antt).
 use Rattle.std.specs.Prelude.{ℕ, List, [], ◌∷◌, Result, Ok, Err}
 use Rattle.rules.specs.declared.answers.Answer.{Answer}
-use Rattle.rules.specs.declared.answers.Answer.TheVariants.{Ready, Taken, Moved, Waits, Load, Ll, Store, Sc, Poked, Word}
+use Rattle.rules.specs.declared.answers.Answer.TheVariants.{Ready, Taken, Moved, Waits, Done, Poked, Word}
+use Rattle.rules.specs.declared.answers.Delivered.{Delivered}
+use Rattle.rules.specs.declared.answers.Delivered.TheVariants.{Load, Ll, Store, Sc}
 use Rattle.rules.specs.declared.refusals.Refusal.{Refusal}
+
+abbrev pub values_delivered : Delivered → List ℕ
+values_delivered (Load v) = v ∷ []
+values_delivered (Ll v) = v ∷ []
+values_delivered Store = []
+values_delivered (Sc v) = v ∷ []
 
 -- "A refusal returns its number .. and no other value"
 abbrev pub values_of : Result Answer Refusal → List ℕ
@@ -11,9 +19,6 @@ values_of (Ok Ready) = []
 values_of (Ok Taken) = []
 values_of (Ok Moved) = []
 values_of (Ok Waits) = []
-values_of (Ok (Load v)) = v ∷ []
-values_of (Ok (Ll v)) = v ∷ []
-values_of (Ok Store) = []
-values_of (Ok (Sc v)) = v ∷ []
+values_of (Ok (Done d)) = values_delivered d
 values_of (Ok Poked) = []
 values_of (Ok (Word v)) = v ∷ []

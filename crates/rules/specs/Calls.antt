@@ -4,12 +4,15 @@ use Rattle.rules.specs.Sizes.{cores_fit, bytes_fit, tables_fit}
 use Rattle.rules.specs.Refusals.{Tested, no_refusal, unless_refused}
 use Rattle.rules.specs.Entry.{entry_of}
 use Rattle.rules.specs.Word.{read_word, write_word}
-use Rattle.rules.specs.Kinds.{address_of, poke_kind, poke_core}
+use Rattle.rules.specs.Kinds.{kind_number, poke_core}
+use Rattle.rules.specs.Operations.{address_of}
 use Rattle.rules.specs.Life.{idle, given, micro_step}
 use Rattle.rules.specs.Ranges.{core_at, in_ranges, damaged}
 use Rattle.rules.specs.declared.entry.GuestAddress.{GuestAddress}
 use Rattle.rules.specs.declared.entry.EntryNumber.{EntryNumber}
-use Rattle.rules.specs.declared.answers.Operation.{Operation}
+use Rattle.rules.specs.declared.operations.Operation.{Operation}
+use Rattle.rules.specs.declared.kinds.Kind.TheVariants as Kind
+use Rattle.rules.specs.declared.answers.Record.{Record}
 use Rattle.rules.specs.declared.answers.Answer.{Answer}
 use Rattle.rules.specs.declared.answers.Answer.TheVariants.{Ready, Taken, Poked, Word}
 use Rattle.rules.specs.declared.refusals.Refusal.{Refusal}
@@ -130,10 +133,14 @@ pub record PokeOutcome : Type 0 where
 abbrev pub poke_outcome : Called → List ℕ → PokeOutcome
 poke_outcome called memory = record { called = called; memory = memory }
 
+-- the record of a poke
+abbrev pub poke_record : GuestAddress → ℕ → Record
+poke_record a value = record { core = poke_core; kind = kind_number Kind.Poke; address = a; value = value }
+
 -- "A poke by the bench writes one word at once and touches no mark, lock or link; it counts as one access."
 abbrev pub poked : Machine → List ℕ → GuestAddress → ℕ → PokeOutcome
 poked m memory a value =
-    poke_outcome (record { answer = Ok Poked; made = Some (record { core = poke_core; kind = poke_kind; address = a; value = value }); machine = m }) (write_word memory a value)
+    poke_outcome (record { answer = Ok Poked; made = Some (poke_record a value); machine = m }) (write_word memory a value)
 
 unfoldable pub poke_of : Machine → List ℕ → GuestAddress → ℕ → PokeOutcome
 poke_of m memory a value = unless_refused (word_refusal m (length memory) a) (λ n. poke_outcome (refused n m) memory) (poked m memory a value)

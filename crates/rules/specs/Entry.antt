@@ -6,3 +6,7 @@ use Rattle.rules.specs.declared.entry.EntryNumber.{EntryNumber}
 -- "Entry of address a: (a / 4) mod E."
 unfoldable pub entry_of : ℕ → GuestAddress → EntryNumber
 entry_of entries a = record { 0 = a.0 / 4 % entries }
+
+-- no address
+abbrev pub nowhere : GuestAddress
+nowhere = record { 0 = 0 }

@@ -1,8 +1,7 @@
 -- What the history of access steps says: whether a store-conditional succeeds, and the links and owner marks it makes. A history is the records handed out, the latest first; `entry` is the entry rule.
 use Rattle.std.specs.Prelude.{ℕ, Bool, true, false, not, ◌&&◌, List, [], ◌∷◌, ◌==◌, if◌then◌else◌}
-use Rattle.rules.specs.Sizes.{written}
-use Rattle.rules.specs.Kinds.{links_kind, unlinks_kind, spoils_kind}
-use Rattle.rules.specs.Life.{nowhere}
+use Rattle.rules.specs.Entry.{nowhere}
+use Rattle.rules.specs.Kinds.{rule_at, links_kind, unlinks_kind, spoils_kind, mark_after}
 use Rattle.rules.specs.declared.entry.GuestAddress.{GuestAddress}
 use Rattle.rules.specs.declared.entry.EntryNumber.{EntryNumber}
 use Rattle.rules.specs.declared.answers.Record.{Record}
@@ -40,14 +39,7 @@ unfoldable pub link_of : ℕ → History → Link
 link_of c [] = no_link
 link_of c (r ∷ h) = if own_ll c r then record { linked = true; link = r.address } else if own_sc c r then no_link else link_of c h
 
--- what an access makes of its entry's owner
-unfoldable pub owner_after : Record → ℕ → ℕ
-owner_after r owner =
-    if r.kind == 2 then written r.core
-    else if r.kind == 3 then if owner == written r.core then owner else 0
-    else if r.kind == 4 then 0
-    else owner
-
+-- an entry's owner is what the accesses there make of it
 unfoldable pub owner_of : (GuestAddress → EntryNumber) → ℕ → History → ℕ
 owner_of entry e [] = 0
-owner_of entry e (r ∷ h) = if (entry r.address).0 == e then owner_after r (owner_of entry e h) else owner_of entry e h
+owner_of entry e (r ∷ h) = if (entry r.address).0 == e then mark_after (rule_at r.kind).mark r.core (owner_of entry e h) else owner_of entry e h

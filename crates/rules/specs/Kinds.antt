@@ -1,62 +1,119 @@
--- The operations, and the kinds of record that their access steps make.
-use Rattle.std.specs.Prelude.{ℕ, Bool, ◌||◌, ◌==◌, if◌then◌else◌}
-use Rattle.rules.specs.declared.entry.GuestAddress.{GuestAddress}
-use Rattle.rules.specs.declared.answers.Operation.{Operation}
-use Rattle.rules.specs.declared.answers.Operation.TheVariants.{Load, Ll, Store, Sc}
-
--- "Operations: load, load-link (ll), store, store-conditional (sc)": a core's state keeps them as 1, 2, 3 and 4
-abbrev pub is_load : ℕ → Bool
-is_load operation = operation == 1
-
-abbrev pub is_ll : ℕ → Bool
-is_ll operation = operation == 2
-
-abbrev pub is_store : ℕ → Bool
-is_store operation = operation == 3
-
-abbrev pub is_sc : ℕ → Bool
-is_sc operation = operation == 4
-
-abbrev pub code_of : Operation → ℕ
-code_of (Load a) = 1
-code_of (Ll a) = 2
-code_of (Store a v) = 3
-code_of (Sc a v) = 4
-
--- "each on one aligned word"
-abbrev pub address_of : Operation → GuestAddress
-address_of (Load a) = a
-address_of (Ll a) = a
-address_of (Store a v) = a
-address_of (Sc a v) = a
-
--- "for store and sc, value"
-abbrev pub value_of : Operation → ℕ
-value_of (Load a) = 0
-value_of (Ll a) = 0
-value_of (Store a v) = v
-value_of (Sc a v) = v
+-- The kinds of record, and what an access of each does: a row a kind. All that goes by kinds goes by these rows.
+use Rattle.std.specs.Prelude.{ℕ, Bool, true, false, Option, Some, None, ◌==◌, if◌then◌else◌}
+use Rattle.rules.specs.Sizes.{written}
+use Rattle.rules.specs.declared.kinds.Kind.{Kind}
+use Rattle.rules.specs.declared.kinds.Kind.TheVariants.{Load, Ll, Store, Success, Failure, Poke}
 
 -- "kind (1 load, 2 ll, 3 store, 4 sc success, 5 sc failure, 6 poke)"
-abbrev pub kind_of : ℕ → Bool → ℕ
-kind_of operation passed = if is_sc operation then if passed then 4 else 5 else operation
+abbrev pub kind_number : Kind → ℕ
+kind_number Load = 1
+kind_number Ll = 2
+kind_number Store = 3
+kind_number Success = 4
+kind_number Failure = 5
+kind_number Poke = 6
 
-abbrev pub poke_kind : ℕ
-poke_kind = 6
+-- the kind that has a number, if one has it
+unfoldable pub kind_at : ℕ → Option Kind
+kind_at number =
+    if number == kind_number Load then Some Load
+    else if number == kind_number Ll then Some Ll
+    else if number == kind_number Store then Some Store
+    else if number == kind_number Success then Some Success
+    else if number == kind_number Failure then Some Failure
+    else if number == kind_number Poke then Some Poke
+    else None
 
 -- "255 for poke"
 abbrev pub poke_core : ℕ
 poke_core = 255
 
--- which kinds write their value into memory; which set their core's link, and which end it; and which end other cores' links at their entry
+-- what an access does with its value: it read it in memory, wrote it there, or neither
+pub data Memory : Type 0 where
+  reads : Memory
+  writes : Memory
+  neither : Memory
+
+-- what it makes of its core's link
+pub data LinkRule : Type 0 where
+  keeps : LinkRule
+  links : LinkRule
+  unlinks : LinkRule
+
+-- what it makes of its entry's owner mark: leave it, set it to its core, clear it, or clear another core's
+pub data MarkRule : Type 0 where
+  leaves : MarkRule
+  marks : MarkRule
+  clears : MarkRule
+  clears_foreign : MarkRule
+
+pub record KindRule : Type 0 where
+  pub memory : Memory
+  pub link : LinkRule
+  pub mark : MarkRule
+
+abbrev pub row : Memory → LinkRule → MarkRule → KindRule
+row memory link mark = record { memory = memory; link = link; mark = mark }
+
+-- the rows
+abbrev pub rule_of : Kind → KindRule
+rule_of Load = row reads keeps leaves
+rule_of Ll = row reads links marks
+rule_of Store = row writes keeps clears_foreign
+rule_of Success = row writes unlinks clears
+rule_of Failure = row neither unlinks leaves
+rule_of Poke = row writes keeps leaves
+
+-- a number that no kind has does nothing
+abbrev pub no_rule : KindRule
+no_rule = row neither keeps leaves
+
+abbrev pub rule_or_none : Option Kind → KindRule
+rule_or_none None = no_rule
+rule_or_none (Some kind) = rule_of kind
+
+unfoldable pub rule_at : ℕ → KindRule
+rule_at number = rule_or_none (kind_at number)
+
+-- whether it writes
+abbrev pub writing : Memory → Bool
+writing reads = false
+writing writes = true
+writing neither = false
+
+-- whether it sets its core's link, and whether it ends it
+abbrev pub linking : LinkRule → Bool
+linking keeps = false
+linking links = true
+linking unlinks = false
+
+abbrev pub unlinking : LinkRule → Bool
+unlinking keeps = false
+unlinking links = false
+unlinking unlinks = true
+
+-- whether it ends other cores' links at its entry: whatever does not leave their mark
+abbrev pub spoiling : MarkRule → Bool
+spoiling leaves = false
+spoiling marks = true
+spoiling clears = true
+spoiling clears_foreign = true
+
 abbrev pub writes_kind : ℕ → Bool
-writes_kind kind = kind == 3 || (kind == 4 || kind == 6)
+writes_kind kind = writing (rule_at kind).memory
 
 abbrev pub links_kind : ℕ → Bool
-links_kind kind = kind == 2
+links_kind kind = linking (rule_at kind).link
 
 abbrev pub unlinks_kind : ℕ → Bool
-unlinks_kind kind = kind == 4 || kind == 5
+unlinks_kind kind = unlinking (rule_at kind).link
 
 abbrev pub spoils_kind : ℕ → Bool
-spoils_kind kind = kind == 2 || (kind == 3 || kind == 4)
+spoils_kind kind = spoiling (rule_at kind).mark
+
+-- the mark that an access by a core leaves
+abbrev pub mark_after : MarkRule → ℕ → ℕ → ℕ
+mark_after leaves core owner = owner
+mark_after marks core owner = written core
+mark_after clears core owner = 0
+mark_after clears_foreign core owner = if owner == written core then owner else 0

@@ -2,14 +2,15 @@
 use Rattle.std.specs.Prelude.{◌≡◌, ℕ, ◌+◌, ◌/◌, ◌%◌, ◌^◌, ◌<◌, ◌≤◌, Bool, true, false, List, [], Option, Some, None, length, replicate, ◌≢◌, slice_index, if◌then◌else◌}
 use Rattle.rules.specs.Sizes.{entries_fit}
 use Rattle.rules.specs.Kinds.{writes_kind, links_kind, unlinks_kind}
-use Rattle.rules.specs.Life.{nowhere, idle, micro_step}
+use Rattle.rules.specs.Entry.{nowhere}
+use Rattle.rules.specs.Life.{idle, micro_step}
 use Rattle.rules.specs.Ranges.{operation_occurs, in_ranges}
 use Rattle.rules.specs.Refusals.{number_in}
 use Rattle.rules.specs.Answers.{values_of}
 use Rattle.rules.specs.Calls.{Outcome, outcome, all_idle, lent_fits, start_of, give_of, step_of, poke_of, show_of}
 use Rattle.rules.specs.declared.entry.GuestAddress.{GuestAddress}
 use Rattle.rules.specs.declared.entry.EntryNumber.{EntryNumber}
-use Rattle.rules.specs.declared.answers.Operation.{Operation}
+use Rattle.rules.specs.declared.operations.Operation.{Operation}
 use Rattle.rules.specs.declared.answers.Record.{Record}
 use Rattle.rules.specs.declared.cores.Core.{Core}
 use Rattle.rules.specs.declared.state.Machine.{Machine}

@@ -4,6 +4,7 @@ pub mod Entry
 pub mod Refusals
 pub mod Word
 pub mod Kinds
+pub mod Operations
 pub mod Life
 pub mod Ranges
 pub mod Answers

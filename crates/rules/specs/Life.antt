@@ -1,18 +1,21 @@
 -- Document 01, "Life of an operation": what each micro-step makes of a core, of its entry's owner and holder, and of the word at its address.
-use Rattle.std.specs.Prelude.{ℕ, Bool, true, false, ◌&&◌, Some, None, ◌==◌, nat_eq, if◌then◌else◌}
+use Rattle.std.specs.Prelude.{ℕ, Bool, true, false, ◌&&◌, Option, Some, None, ◌==◌, nat_eq, if◌then◌else◌}
 use Rattle.rules.specs.Sizes.{written}
-use Rattle.rules.specs.Kinds.{is_load, is_ll, is_store, code_of, address_of, value_of, kind_of}
+use Rattle.rules.specs.Entry.{nowhere}
+use Rattle.rules.specs.Operations.{code_of, address_of, value_of, shape_of, kind_of}
 use Rattle.rules.specs.declared.entry.GuestAddress.{GuestAddress}
-use Rattle.rules.specs.declared.answers.Operation.{Operation}
+use Rattle.rules.specs.declared.operations.Operation.{Operation}
+use Rattle.rules.specs.declared.operations.Shape.{Shape}
+use Rattle.rules.specs.declared.operations.Shape.TheVariants.{Load, Locks}
+use Rattle.rules.specs.declared.operations.Locking.{Locking}
+use Rattle.rules.specs.declared.operations.Locking.TheVariants.{Ll, Store, Sc}
 use Rattle.rules.specs.declared.answers.Answer.{Answer}
-use Rattle.rules.specs.declared.answers.Answer.TheVariants.{Moved, Waits, Load, Ll, Store, Sc}
+use Rattle.rules.specs.declared.answers.Answer.TheVariants.{Moved, Waits, Done}
+use Rattle.rules.specs.declared.answers.Delivered.{Delivered}
+use Rattle.rules.specs.declared.answers.Delivered.TheVariants as Answered
 use Rattle.rules.specs.declared.answers.Record.{Record}
 use Rattle.rules.specs.declared.cores.Core.{Core}
 use Rattle.rules.specs.declared.cores.MicroStep.{MicroStep}
-
--- no address
-abbrev pub nowhere : GuestAddress
-nowhere = record { 0 = 0 }
 
 -- "Fields unused in a core's present state are 0": of an idle core only the link may be in use
 abbrev pub resting : Bool → GuestAddress → Core
@@ -38,15 +41,18 @@ moves c owner holder = record { answer = Moved; made = None; core = c; owner = o
 abbrev pub record_of : ℕ → Core → ℕ → Record
 record_of me c value = record { core = me; kind = kind_of c.operation c.passed; address = c.address; value = value }
 
+-- nothing changes
+abbrev pub stays : Answer → Core → ℕ → ℕ → MicroStep
+stays answer c owner holder = record { answer = answer; made = None; core = c; owner = owner; holder = holder; writes = false }
+
 -- "A load has one step: it reads and finishes." "A load's only step is its access step."
 unfoldable pub load_step : ℕ → Core → ℕ → ℕ → ℕ → MicroStep
 load_step me c owner holder word =
-    record { answer = Load word; made = Some (record { core = me; kind = 1; address = c.address; value = word }); core = resting c.linked c.link; owner = owner; holder = holder; writes = false }
+    record { answer = Done (Answered.Load word); made = Some (record_of me c word); core = resting c.linked c.link; owner = owner; holder = holder; writes = false }
 
 -- "1. Take the entry's lock if its holder is 0. Otherwise the answer is "waits" and nothing changes."
 unfoldable pub lock_step : ℕ → Core → ℕ → ℕ → MicroStep
-lock_step me c owner holder =
-    if holder == 0 then moves (advanced c 2) owner (written me) else record { answer = Waits; made = None; core = c; owner = owner; holder = holder; writes = false }
+lock_step me c owner holder = if holder == 0 then moves (advanced c 2) owner (written me) else stays Waits c owner holder
 
 -- "2. ll: set the owner to this core."
 abbrev pub ll_mark : ℕ → Core → ℕ → ℕ → MicroStep
@@ -66,9 +72,10 @@ judged c passed = record { busy = c.busy; operation = c.operation; next = 3; pas
 abbrev pub sc_mark : ℕ → Core → ℕ → ℕ → MicroStep
 sc_mark me c owner holder = moves (judged c (passes me c owner)) owner holder
 
-unfoldable pub mark_step : ℕ → Core → ℕ → ℕ → MicroStep
-mark_step me c owner holder =
-    if is_ll c.operation then ll_mark me c owner holder else if is_store c.operation then store_mark me c owner holder else sc_mark me c owner holder
+unfoldable pub mark_step : Locking → ℕ → Core → ℕ → ℕ → MicroStep
+mark_step Ll me c owner holder = ll_mark me c owner holder
+mark_step Store me c owner holder = store_mark me c owner holder
+mark_step Sc me c owner holder = sc_mark me c owner holder
 
 -- "3. The access step. ll: read, and set the link."
 abbrev pub ll_access : ℕ → Core → ℕ → ℕ → ℕ → MicroStep
@@ -99,23 +106,34 @@ sc_access me c owner holder =
       writes = c.passed;
     }
 
-unfoldable pub access_step : ℕ → Core → ℕ → ℕ → ℕ → MicroStep
-access_step me c owner holder word =
-    if is_ll c.operation then ll_access me c owner holder word else if is_store c.operation then store_access me c owner holder else sc_access me c owner holder
+unfoldable pub access_step : Locking → ℕ → Core → ℕ → ℕ → ℕ → MicroStep
+access_step Ll me c owner holder word = ll_access me c owner holder word
+access_step Store me c owner holder word = store_access me c owner holder
+access_step Sc me c owner holder word = sc_access me c owner holder
 
 -- "The answer of sc is 0 for success, 1 for failure."
-unfoldable pub delivered : Core → Answer
-delivered c = if is_ll c.operation then Ll c.read else if is_store c.operation then Store else Sc (if c.passed then 0 else 1)
+unfoldable pub delivered : Locking → Core → Delivered
+delivered Ll c = Answered.Ll c.read
+delivered Store c = Answered.Store
+delivered Sc c = Answered.Sc (if c.passed then 0 else 1)
 
 -- "4. Set the holder to 0, deliver the answer, become idle."
-abbrev pub leave_step : Core → ℕ → MicroStep
-leave_step c owner = record { answer = delivered c; made = None; core = resting c.linked c.link; owner = owner; holder = 0; writes = false }
+abbrev pub leave_step : Locking → Core → ℕ → MicroStep
+leave_step l c owner = record { answer = Done (delivered l c); made = None; core = resting c.linked c.link; owner = owner; holder = 0; writes = false }
 
 -- "A load has one step .. The others have four"
+abbrev pub locked_step : Locking → ℕ → Core → ℕ → ℕ → ℕ → MicroStep
+locked_step l me c owner holder word =
+    if c.next == 1 then lock_step me c owner holder
+    else if c.next == 2 then mark_step l me c owner holder
+    else if c.next == 3 then access_step l me c owner holder word
+    else leave_step l c owner
+
+-- an operation that cannot occur has no step: a state that has one is out of its ranges
+abbrev pub step_by : Option Shape → ℕ → Core → ℕ → ℕ → ℕ → MicroStep
+step_by None me c owner holder word = stays Waits c owner holder
+step_by (Some Load) me c owner holder word = load_step me c owner holder word
+step_by (Some (Locks l)) me c owner holder word = locked_step l me c owner holder word
+
 unfoldable pub micro_step : ℕ → Core → ℕ → ℕ → ℕ → MicroStep
-micro_step me c owner holder word =
-    if is_load c.operation then load_step me c owner holder word
-    else if c.next == 1 then lock_step me c owner holder
-    else if c.next == 2 then mark_step me c owner holder
-    else if c.next == 3 then access_step me c owner holder word
-    else leave_step c owner
+micro_step me c owner holder word = step_by (shape_of c.operation) me c owner holder word

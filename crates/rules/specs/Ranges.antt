@@ -1,7 +1,7 @@
 -- Document 01, "Answer numbers": what 5 and 6 are given for.
-use Rattle.std.specs.Prelude.{ℕ, ◌%◌, Bool, not, ◌&&◌, ◌||◌, ◌==◌, nat_le, nat_lt, slice_index_or}
+use Rattle.std.specs.Prelude.{ℕ, ◌%◌, Bool, not, ◌&&◌, ◌||◌, is_some, ◌==◌, nat_le, nat_lt, slice_index_or}
 use Rattle.rules.specs.Sizes.{cores_fit, bytes_fit, entries_fit, written}
-use Rattle.rules.specs.Kinds.{is_load, is_ll, is_store, is_sc}
+use Rattle.rules.specs.Operations.{shape_of, a_load, an_ll, an_sc, with_value}
 use Rattle.rules.specs.Basics.{all_below}
 use Rattle.rules.specs.Life.{idle}
 use Rattle.rules.specs.declared.entry.GuestAddress.{GuestAddress}
@@ -14,15 +14,15 @@ sizes_fit m = cores_fit m.count && bytes_fit m.bytes && entries_fit m.entries
 
 -- "In use are a busy core's operation, address, next step (a load's is 1) and, for store and sc, value;"
 abbrev pub uses_value : Core → Bool
-uses_value c = c.busy && (is_store c.operation || is_sc c.operation)
+uses_value c = c.busy && with_value (shape_of c.operation)
 
 -- "what ll read at next step 4;"
 abbrev pub uses_read : Core → Bool
-uses_read c = c.busy && is_ll c.operation && c.next == 4
+uses_read c = c.busy && an_ll (shape_of c.operation) && c.next == 4
 
 -- "sc's outcome at 3 and 4;"
 abbrev pub uses_passed : Core → Bool
-uses_passed c = c.busy && is_sc c.operation && (c.next == 3 || c.next == 4)
+uses_passed c = c.busy && an_sc (shape_of c.operation) && (c.next == 3 || c.next == 4)
 
 -- "an unused field not 0": each field is in use or 0
 abbrev pub in_use_or0 : Bool → ℕ → Bool
@@ -40,10 +40,10 @@ link_fields c = in_use_or0 c.linked c.link.0
 
 -- "a busy core whose operation or next step can't occur": every operation has step 1, and all but a load have 2 to 4
 abbrev pub operation_occurs : ℕ → Bool
-operation_occurs operation = nat_le 1 operation && nat_le operation 4
+operation_occurs operation = is_some (shape_of operation)
 
 abbrev pub step_occurs : ℕ → ℕ → Bool
-step_occurs operation next = next == 1 || not (is_load operation) && nat_le 2 next && nat_le next 4
+step_occurs operation next = next == 1 || not (a_load (shape_of operation)) && nat_le 2 next && nat_le next 4
 
 abbrev pub operation_fits : Core → Bool
 operation_fits c = not c.busy || operation_occurs c.operation && step_occurs c.operation c.next
@@ -76,4 +76,4 @@ in_ranges m = sizes_fit m && every_core_fits m
 -- "6: at a locked operation's entry, owner or holder exceeds the core count; or the next step is 2..4 and the holder is another or 0; or it is 1 and the holder is this core. A load never gives 6."
 unfoldable pub damaged : ℕ → ℕ → Core → ℕ → ℕ → Bool
 damaged count me c owner holder =
-    not (is_load c.operation) && (nat_lt count owner || nat_lt count holder || nat_le 2 c.next && not (holder == written me) || c.next == 1 && holder == written me)
+    not (a_load (shape_of c.operation)) && (nat_lt count owner || nat_lt count holder || nat_le 2 c.next && not (holder == written me) || c.next == 1 && holder == written me)

@@ -1,17 +1,17 @@
 -- Runs of the machine from a fresh one: lists of calls with any arguments, the latest first, refused and waiting ones included; and what a run hands out and delivers.
-use Rattle.std.specs.Prelude.{◌≡◌, ℕ, Bool, true, false, ◌&&◌, List, [], ◌∷◌, Option, Some, None, Result, Ok, Err, length, ◌==◌, if◌then◌else◌}
-use Rattle.rules.specs.Entry.{entry_of}
-use Rattle.rules.specs.Life.{nowhere}
+use Rattle.std.specs.Prelude.{◌≡◌, ℕ, ◌&&◌, List, [], ◌∷◌, Option, Some, None, Result, Ok, length, ◌==◌, if◌then◌else◌}
+use Rattle.rules.specs.Entry.{entry_of, nowhere}
 use Rattle.rules.specs.Refusals.{no_refusal, number_in}
 use Rattle.rules.specs.Calls.{Outcome, outcome, start_refusal, start_of, give_of, step_of, poke_of}
 use Rattle.rules.specs.History.{History}
 use Rattle.rules.specs.Reference.{Whole, does, pokes}
 use Rattle.rules.specs.declared.entry.GuestAddress.{GuestAddress}
 use Rattle.rules.specs.declared.entry.EntryNumber.{EntryNumber}
-use Rattle.rules.specs.declared.answers.Operation.{Operation}
-use Rattle.rules.specs.declared.answers.Operation.TheVariants as Asked
+use Rattle.rules.specs.declared.operations.Operation.{Operation}
+use Rattle.rules.specs.declared.operations.Operation.TheVariants as Asked
 use Rattle.rules.specs.declared.answers.Answer.{Answer}
-use Rattle.rules.specs.declared.answers.Answer.TheVariants as Answered
+use Rattle.rules.specs.declared.answers.Answer.TheVariants.{Done}
+use Rattle.rules.specs.declared.answers.Delivered.{Delivered}
 use Rattle.rules.specs.declared.answers.Record.{Record}
 use Rattle.rules.specs.declared.refusals.Refusal.{Refusal}
 
@@ -51,38 +51,26 @@ records fresh [] = []
 records fresh (call ∷ calls) = handed (act (after fresh calls) call).called.made (records fresh calls)
 
 -- the operations that a core was given, the latest first: "Refused calls are no part of the history"
-abbrev pub taken : ℕ → Call → Result Answer Refusal → List Operation → List Operation
-taken c (give core operation) answer os = if core == c && number_in answer == 0 then operation ∷ os else os
-taken c (step core) answer os = os
-taken c (poke a value) answer os = os
+abbrev pub with_given : ℕ → Call → Result Answer Refusal → List Operation → List Operation
+with_given c (give core operation) answer os = if core == c && number_in answer == 0 then operation ∷ os else os
+with_given c (step core) answer os = os
+with_given c (poke a value) answer os = os
 
 unfoldable pub given_to : Outcome → ℕ → List Call → List Operation
 given_to fresh c [] = []
-given_to fresh c (call ∷ calls) = taken c call (act (after fresh calls) call).called.answer (given_to fresh c calls)
+given_to fresh c (call ∷ calls) = with_given c call (act (after fresh calls) call).called.answer (given_to fresh c calls)
 
 -- the answers delivered to a core, the latest first: those of its steps that finish an operation
-abbrev pub finishes : Answer → Bool
-finishes Answered.Ready = false
-finishes Answered.Taken = false
-finishes Answered.Moved = false
-finishes Answered.Waits = false
-finishes (Answered.Load v) = true
-finishes (Answered.Ll v) = true
-finishes Answered.Store = true
-finishes (Answered.Sc v) = true
-finishes Answered.Poked = false
-finishes (Answered.Word v) = false
+abbrev pub with_answer : Result Answer Refusal → List Delivered → List Delivered
+with_answer (Ok (Done answer)) before = answer ∷ before
+with_answer _ before = before
 
-abbrev pub with_answer : Result Answer Refusal → List Answer → List Answer
-with_answer (Ok answer) before = if finishes answer then answer ∷ before else before
-with_answer (Err refusal) before = before
-
-abbrev pub delivers : ℕ → Call → Result Answer Refusal → List Answer → List Answer
+abbrev pub delivers : ℕ → Call → Result Answer Refusal → List Delivered → List Delivered
 delivers c (give core operation) answer before = before
 delivers c (step core) answer before = if core == c then with_answer answer before else before
 delivers c (poke a value) answer before = before
 
-unfoldable pub delivered_to : Outcome → ℕ → List Call → List Answer
+unfoldable pub delivered_to : Outcome → ℕ → List Call → List Delivered
 delivered_to fresh c [] = []
 delivered_to fresh c (call ∷ calls) = delivers c call (act (after fresh calls) call).called.answer (delivered_to fresh c calls)
 

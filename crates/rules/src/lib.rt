@@ -8,11 +8,15 @@
 mod answers;
 mod cores;
 mod entry;
+mod kinds;
+mod operations;
 mod refusals;
 mod state;
 
-pub use answers::{Answer, Operation, Record};
+pub use answers::{Answer, Delivered, Record};
 pub use cores::{Core, MicroStep};
 pub use entry::{EntryNumber, GuestAddress, entry_of};
+pub use kinds::Kind;
+pub use operations::{Locking, Operation, Shape};
 pub use refusals::{Refusal, number_of};
 pub use state::{Called, Machine};
