@@ -7,7 +7,7 @@ use Rattle.rules.specs.Life.{micro_step}
 use Rattle.rules.specs.declared.entry.GuestAddress.{GuestAddress}
 use Rattle.rules.specs.Ranges.{core_at, in_ranges, damaged}
 use Rattle.rules.specs.Calls.{Outcome, outcome, PokeOutcome, address_refusal, lent_fits, entry_at, mark_at, poke_outcome, give_refusal, give_of, step_refusal, step_of, stepped, micro_step_at, word_refusal, poke_of, show_of}
-use Rattle.rules.specs.declared.answers.Operation.{Operation}
+use Rattle.rules.specs.declared.operations.Operation.{Operation}
 use Rattle.rules.specs.declared.cores.Core.{Core}
 use Rattle.rules.specs.declared.cores.MicroStep.{MicroStep}
 use Rattle.rules.specs.declared.state.Machine.{Machine}

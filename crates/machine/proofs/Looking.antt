@@ -1,30 +1,34 @@
 -- What the code looks at in each core, in one pass, is what the ranges ask.
 -- Assumes nothing.
-use Rattle.std.proofs.Common.{◌≡◌, ℕ, ◌*◌, ◌/◌, ◌%◌, ◌^◌, ◌<◌, ◌≤◌, Bool, true, false, not, ◌&&◌, ◌||◌, eqb, ltb, leb, sym, refl, ◌∙◌, arith, ltb-false, ltb-true, le-ltb, lt-ltb, ne_eqb, eqb-true, leb-false, leb-true, if◌then◌else◌}
+use Rattle.std.proofs.Common.{◌≡◌, ℕ, ◌*◌, ◌/◌, ◌%◌, ◌^◌, ◌<◌, ◌≤◌, Bool, true, false, not, ◌&&◌, ◌||◌, eqb, ltb, leb, Option, Some, None, is_some, sym, refl, ◌∙◌, arith, ltb-false, ltb-true, le-ltb, lt-ltb, ne_eqb, eqb-true, leb-false, leb-true, if◌then◌else◌}
 use mathlib.Core.Bool.{false≢true, and-true}
 use borrow.Author.Tests.{eqb-false, lt-leb}
 use Rattle.std.specs.Int.{w32, rotate_right}
 use Rattle.std.proofs.lemmas.Nat.{or_comm, or_shifted}
 use Rattle.rules.specs.Basics.{all_below}
-use Rattle.rules.specs.Kinds.{is_ll, is_store, is_sc}
-use Rattle.rules.specs.Ranges.{sizes_fit, uses_value, uses_read, uses_passed, in_use_or0, link_fields, operation_occurs, step_occurs, operation_fits, inside, place_fits, core_fits, core_at, in_ranges}
-use Rattle.machine.specs.Looked.{stage_of, can_be_at, spare, spare_are0, word_at, words_for, room_of, looks_right_at, core_looks_right, fits_at}
+use Rattle.rules.specs.Operations.{shape_of, a_load, an_ll, an_sc, with_value}
+use Rattle.rules.specs.Ranges.{sizes_fit, uses_value, uses_read, uses_passed, in_use_or0, link_fields, operation_fits, inside, place_fits, core_fits, core_at, in_ranges}
+use Rattle.machine.specs.Looked.{shape_place, operation_place, stage_of, can_be_at, spare, spare_are0, word_at, words_for, room_of, looks_right_at, core_looks_right, fits_at}
+use Rattle.rules.specs.declared.operations.Shape.{Shape}
+use Rattle.rules.specs.declared.operations.Shape.TheVariants.{Load, Locks}
+use Rattle.rules.specs.declared.operations.Locking.TheVariants.{Ll, Store, Sc}
 use Rattle.rules.specs.declared.cores.Core.{Core}
 use Rattle.rules.specs.declared.state.Machine.{Machine}
 use Rattle.rules.proofs.Bools.{and₂, and₃, and₄, same, and_false}
 use Rattle.rules.proofs.Accepted.{at_below, core_fits_lem, sizes}
 
--- what the ranges ask of a core's operation, next step and flags
-abbrev stage_fits : Bool → Bool → ℕ → ℕ → Bool
-stage_fits busy passed operation next =
-    (busy || eqb operation 0) && (busy || eqb next 0) && (busy && is_sc operation && (eqb next 3 || eqb next 4) || not passed) && (not busy || operation_occurs operation && step_occurs operation next)
+-- what the ranges ask of a core's operation, next step and flags, by whether the operation's number is 0 and by its shape
+abbrev stage_fits : Bool → Option Shape → Bool → Bool → ℕ → Bool
+stage_fits none s busy passed next =
+    (busy || none) && (busy || eqb next 0) && (busy && an_sc s && (eqb next 3 || eqb next 4) || not passed)
+    && (not busy || is_some s && (eqb next 1 || not (a_load s) && leb 2 next && leb next 4))
 
 -- a value is in use, and what ll read
-abbrev value_used : Bool → ℕ → Bool
-value_used busy operation = busy && (is_store operation || is_sc operation)
+abbrev value_used : Option Shape → Bool → Bool
+value_used s busy = busy && with_value s
 
-abbrev read_used : Bool → ℕ → ℕ → Bool
-read_used busy operation next = busy && is_ll operation && eqb next 4
+abbrev read_used : Option Shape → Bool → ℕ → Bool
+read_used s busy next = busy && an_ll s && eqb next 4
 
 -- two tests say the same
 agree : Bool → Bool → Bool
@@ -37,56 +41,81 @@ agreed true b h = sym h
 agreed false true h = absurd (false≢true h)
 agreed false false h = refl
 
--- one test of each stage: it is among the stages where it fits, and what it uses there
-stage_right : Bool → Bool → ℕ → Bool
-stage_right busy passed t =
-    agree (can_be_at busy passed t) (stage_fits busy passed (t / 8) (t % 8))
-    && (if can_be_at busy passed t then agree (leb 25 t) (value_used busy (t / 8)) && agree (eqb t 20) (read_used busy (t / 8) (t % 8)) else true)
+-- one test of each stage of a shape: it is among the stages where it fits, and what it uses there
+stage_right : Bool → Option Shape → ℕ → Bool → Bool → ℕ → Bool
+stage_right none s place busy passed next =
+    agree (can_be_at busy passed (stage_of place next)) (stage_fits none s busy passed next)
+    && (if can_be_at busy passed (stage_of place next) then agree (leb 25 (stage_of place next)) (value_used s busy) && agree (eqb (stage_of place next) 20) (read_used s busy next) else true)
 
-stages_right : (busy passed : Bool) → all_below 64 (stage_right busy passed) ≡ true
-unfolding stage_right can_be_at agree
-stages_right true true = refl
-stages_right true false = refl
-stages_right false true = refl
-stages_right false false = refl
+every_flag : (Bool → Bool → Bool) → Bool
+every_flag test = test true true && test true false && (test false true && test false false)
 
--- a stage that is one of the 64
-record Staged (busy passed : Bool) (operation next : ℕ) : Type 0 where
-  fits : can_be_at busy passed (stage_of operation next) ≡ stage_fits busy passed operation next
-  uses : can_be_at busy passed (stage_of operation next) ≡ true
-      → (leb 25 (stage_of operation next) ≡ value_used busy operation) × (eqb (stage_of operation next) 20 ≡ read_used busy operation next)
+shape_right : Bool → Option Shape → ℕ → Bool
+shape_right none s place = every_flag (λ busy passed. all_below 8 (stage_right none s place busy passed))
 
-staged : (busy passed : Bool) (operation next : ℕ) → next ≤ 7 → stage_of operation next ≤ 63 → Staged busy passed operation next
-unfolding stage_right
-staged busy passed operation next n l =
-    let t = stage_of operation next in
-    let o : t / 8 ≡ operation = omega arith in
-    let m : t % 8 ≡ next = omega arith in
-    let h = at_below 64 (stage_right busy passed) t (omega arith) (stages_right busy passed) in
-    let both = and₂ (agree (can_be_at busy passed t) (stage_fits busy passed (t / 8) (t % 8))) _ h in
+-- the number 0, a number that is no operation's, and each shape's
+idle_right : shape_right true None 0 ≡ true
+unfolding shape_right every_flag stage_right can_be_at agree
+idle_right = refl
+
+shapes_right : (s : Option Shape) → shape_right false s (shape_place s) ≡ true
+unfolding shape_right every_flag stage_right can_be_at agree
+shapes_right None = refl
+shapes_right (Some Load) = refl
+shapes_right (Some (Locks Ll)) = refl
+shapes_right (Some (Locks Store)) = refl
+shapes_right (Some (Locks Sc)) = refl
+
+at_flags : (test : Bool → Bool → Bool) (busy passed : Bool) → every_flag test ≡ true → test busy passed ≡ true
+unfolding every_flag
+at_flags test busy passed h = go busy passed
+  where
+    t : (test true true && test true false ≡ true) × (test false true && test false false ≡ true)
+    t = and₂ (test true true && test true false) (test false true && test false false) h
+
+    go : (busy passed : Bool) → test busy passed ≡ true
+    go true true = (and₂ (test true true) (test true false) t.0).0
+    go true false = (and₂ (test true true) (test true false) t.0).1
+    go false true = (and₂ (test false true) (test false false) t.1).0
+    go false false = (and₂ (test false true) (test false false) t.1).1
+
+-- a stage that is one of a shape's
+record Staged (none : Bool) (s : Option Shape) (place : ℕ) (busy passed : Bool) (next : ℕ) : Type 0 where
+  fits : can_be_at busy passed (stage_of place next) ≡ stage_fits none s busy passed next
+  uses : can_be_at busy passed (stage_of place next) ≡ true → (leb 25 (stage_of place next) ≡ value_used s busy) × (eqb (stage_of place next) 20 ≡ read_used s busy next)
+
+staged_by : (none : Bool) (s : Option Shape) (place : ℕ) → shape_right none s place ≡ true → (busy passed : Bool) (next : ℕ) → next ≤ 7 → Staged none s place busy passed next
+unfolding shape_right stage_right
+staged_by none s place h busy passed next n =
+    let t = stage_of place next in
+    let all = at_flags (λ busy passed. all_below 8 (stage_right none s place busy passed)) busy passed h in
+    let both = and₂ (agree (can_be_at busy passed t) (stage_fits none s busy passed next)) _ (at_below 8 (stage_right none s place busy passed) next (omega arith) all) in
     record {
-      fits = rw (o, m) at (agreed (can_be_at busy passed t) (stage_fits busy passed (t / 8) (t % 8)) both.0);
-      uses = λ c. let u = and₂ (agree (leb 25 t) (value_used busy (t / 8))) (agree (eqb t 20) (read_used busy (t / 8) (t % 8))) (rw c at both.1) in
-          (rw o at (agreed (leb 25 t) (value_used busy (t / 8)) u.0), rw (o, m) at (agreed (eqb t 20) (read_used busy (t / 8) (t % 8)) u.1));
+      fits = agreed (can_be_at busy passed t) (stage_fits none s busy passed next) both.0;
+      uses = λ c. let u = and₂ (agree (leb 25 t) (value_used s busy)) (agree (eqb t 20) (read_used s busy next)) (rw c at both.1) in
+          (agreed (leb 25 t) (value_used s busy) u.0, agreed (eqb t 20) (read_used s busy next) u.1);
     }
 
--- a next step or an operation beyond the 64 stages fits nowhere
-far_step : (busy passed : Bool) (operation next : ℕ) → 7 < next → stage_fits busy passed operation next ≡ false
-far_step true passed operation next l = rw (ne_eqb next 1 (λ e. omega arith), lt-leb next 4 (omega arith)) (simp and_false)
-far_step false passed operation next l = rw (ne_eqb next 0 (λ e. omega arith)) (simp and_false)
-
-far_operation : (busy passed : Bool) (operation next : ℕ) → 7 < operation → stage_fits busy passed operation next ≡ false
-far_operation true passed operation next l = rw (lt-leb operation 4 (omega arith)) (simp and_false)
-far_operation false passed operation next l = rw (ne_eqb operation 0 (λ e. omega arith))
-
--- the stage's three tests together
-stage_looks : (busy passed : Bool) (operation next : ℕ) → (leb next 7 && leb (stage_of operation next) 63 && can_be_at busy passed (stage_of operation next)) ≡ stage_fits busy passed operation next
-stage_looks busy passed operation next = go (leb next 7) refl (leb (stage_of operation next) 63) refl
+staged : (operation : ℕ) (busy passed : Bool) (next : ℕ) → next ≤ 7 → Staged (eqb operation 0) (shape_of operation) (operation_place operation) busy passed next
+unfolding shape_of
+staged operation = go (eqb operation 0) refl
   where
-    go : (t : Bool) → leb next 7 ≡ t → (u : Bool) → leb (stage_of operation next) 63 ≡ u → (t && u && can_be_at busy passed (stage_of operation next)) ≡ stage_fits busy passed operation next
-    go false p u q = sym (far_step busy passed operation next (leb-false next 7 p))
-    go true p false q = sym (far_operation busy passed operation next (omega (arith, leb-true next 7 p, leb-false (stage_of operation next) 63 q)))
-    go true p true q = (staged busy passed operation next (leb-true next 7 p) (leb-true (stage_of operation next) 63 q)).fits
+    go : (t : Bool) → eqb operation 0 ≡ t → (busy passed : Bool) (next : ℕ) → next ≤ 7 → Staged t (shape_of operation) (if t then 0 else shape_place (shape_of operation)) busy passed next
+    go true e = rw (eqb-true operation 0 e) (staged_by true None 0 idle_right)
+    go false e = staged_by false (shape_of operation) (shape_place (shape_of operation)) (shapes_right (shape_of operation))
+
+-- a next step beyond 7 fits nowhere
+far_step : (none : Bool) (s : Option Shape) (busy passed : Bool) (next : ℕ) → 7 < next → stage_fits none s busy passed next ≡ false
+far_step none s true passed next l = rw (ne_eqb next 1 (λ e. omega arith), lt-leb next 4 (omega arith)) (simp and_false)
+far_step none s false passed next l = rw (ne_eqb next 0 (λ e. omega arith)) (simp and_false)
+
+-- the stage's two tests together
+stage_looks : (operation : ℕ) (busy passed : Bool) (next : ℕ) → (leb next 7 && can_be_at busy passed (stage_of (operation_place operation) next)) ≡ stage_fits (eqb operation 0) (shape_of operation) busy passed next
+stage_looks operation busy passed next = go (leb next 7) refl
+  where
+    go : (t : Bool) → leb next 7 ≡ t → (t && can_be_at busy passed (stage_of (operation_place operation) next)) ≡ stage_fits (eqb operation 0) (shape_of operation) busy passed next
+    go false p = sym (far_step (eqb operation 0) (shape_of operation) busy passed next (leb-false next 7 p))
+    go true p = (staged operation busy passed next (leb-true next 7 p)).fits
 
 -- a field is spare or in use
 spare_or : (used : Bool) (field : ℕ) → eqb (spare used field) 0 ≡ used || eqb field 0
@@ -141,25 +170,25 @@ module _ (count bytes i : ℕ) (h : bytes ≤ 65536) (e : bytes % 4 ≡ 0) (a k 
       go false false true = rw (none_below_0 (word_at k)) (and_false (ltb (word_at a) 1) ∙ sym (and_false (address_fits false a && address_fits true k)))
       go false false false = rw (word_nowhere a, word_nowhere k) (both_idle (eqb a 0) (eqb k 0))
 
--- The tests of the two sides, each side's in its own order. The look's: the stage's three, value and read, then of address and link where they can be. The
+-- The tests of the two sides, each side's in its own order. The look's: the stage's two, value and read, then of address and link where they can be. The
 -- ranges': operation, next step, passed, what occurs, value and read, address and link in use or 0 and inside; the place.
-module _ (n s b v r a< k< : Bool) (o m u f v' r' a k aᵢ kᵢ p : Bool)
-    (stage : (n && s && b) ≡ o && m && u && f)
-    (uses : (n && s && b) ≡ true → (v ≡ v') × (r ≡ r'))
+module _ (n b v r a< k< : Bool) (o m u f v' r' a k aᵢ kᵢ p : Bool)
+    (stage : (n && b) ≡ o && m && u && f)
+    (uses : (n && b) ≡ true → (v ≡ v') × (r ≡ r'))
     (addresses : (a< && k<) ≡ ((a && aᵢ) && (k && kᵢ)) && p) where
   abbrev looks : Bool
-  looks = n && (s && b && (v && r) && a< && k<)
+  looks = n && (b && (v && r) && a< && k<)
 
   abbrev asked : Bool
   asked = ((o && m && a) && (v' && r' && u) && k) && (f && (aᵢ && kᵢ) && p)
 
   looks_asked : looks ≡ true → asked ≡ true
   looks_asked h =
-      let c = and₂ n (s && b && (v && r) && a< && k<) h in
-      let d = and₃ (s && b && (v && r)) a< k< c.1 in
-      let e = and₃ s b (v && r) d.0 in
-      let z = and₂ v r e.2 in
-      let st : n && s && b ≡ true = rw (c.0, e.0, e.1) in
+      let c = and₂ n (b && (v && r) && a< && k<) h in
+      let d = and₃ (b && (v && r)) a< k< c.1 in
+      let e = and₂ b (v && r) d.0 in
+      let z = and₂ v r e.1 in
+      let st : n && b ≡ true = rw (c.0, e.0) in
       let w = and₄ o m u f (sym stage ∙ st) in
       let g = and₂ ((a && aᵢ) && (k && kᵢ)) p (sym addresses ∙ rw (d.1, d.2)) in
       let q = and₂ (a && aᵢ) (k && kᵢ) g.0 in
@@ -175,10 +204,10 @@ module _ (n s b v r a< k< : Bool) (o m u f v' r' a k aᵢ kᵢ p : Bool)
       let e = and₃ o m a c.0 in
       let g = and₃ v' r' u c.1 in
       let z = and₂ aᵢ kᵢ d.1 in
-      let st : n && s && b ≡ true = stage ∙ rw (e.0, e.1, g.2, d.0) in
-      let w = and₃ n s b st in
+      let st : n && b ≡ true = stage ∙ rw (e.0, e.1, g.2, d.0) in
+      let w = and₂ n b st in
       let q = and₂ a< k< (addresses ∙ rw (e.2, z.0, c.2, z.1, d.2)) in
-      rw (w.0, w.1, w.2, (uses st).0 ∙ g.0, (uses st).1 ∙ g.1, q.0, q.1)
+      rw (w.0, w.1, (uses st).0 ∙ g.0, (uses st).1 ∙ g.1, q.0, q.1)
 
   in_order : looks ≡ asked
   in_order = same looks asked looks_asked asked_looks
@@ -186,25 +215,25 @@ module _ (n s b v r a< k< : Bool) (o m u f v' r' a k aᵢ kᵢ p : Bool)
 -- one core
 module _ (count bytes i : ℕ) (c : Core) (h : bytes ≤ 65536) (e : bytes % 4 ≡ 0) where
   abbrev stage : ℕ
-  stage = stage_of c.operation c.next
+  stage = stage_of (operation_place c.operation) c.next
 
-  uses_alike : (leb c.next 7 && leb stage 63 && can_be_at c.busy c.passed stage) ≡ true
-      → (eqb (spare (leb 25 stage) c.value) 0 ≡ value_used c.busy c.operation || eqb c.value 0) × (eqb (spare (eqb stage 20) c.read) 0 ≡ read_used c.busy c.operation c.next || eqb c.read 0)
+  uses_alike : (leb c.next 7 && can_be_at c.busy c.passed stage) ≡ true
+      → (eqb (spare (leb 25 stage) c.value) 0 ≡ value_used (shape_of c.operation) c.busy || eqb c.value 0) × (eqb (spare (eqb stage 20) c.read) 0 ≡ read_used (shape_of c.operation) c.busy c.next || eqb c.read 0)
   uses_alike h =
-      let t = and₃ (leb c.next 7) (leb stage 63) (can_be_at c.busy c.passed stage) h in
-      let u = (staged c.busy c.passed c.operation c.next (leb-true c.next 7 t.0) (leb-true stage 63 t.1)).uses t.2 in
-      (rw u.0 (spare_or (value_used c.busy c.operation) c.value), rw u.1 (spare_or (read_used c.busy c.operation c.next) c.read))
+      let t = and₂ (leb c.next 7) (can_be_at c.busy c.passed stage) h in
+      let u = (staged c.operation c.busy c.passed c.next (leb-true c.next 7 t.0)).uses t.1 in
+      (rw u.0 (spare_or (value_used (shape_of c.operation) c.busy) c.value), rw u.1 (spare_or (read_used (shape_of c.operation) c.busy c.next) c.read))
 
   core_looks : core_looks_right (words_for count bytes i) c ≡ core_fits count bytes i c
   unfolding core_looks_right looks_right_at spare_are0 core_fits
   core_looks =
       let words = words_for count bytes i in
       in_order
-      (leb c.next 7) (leb stage 63) (can_be_at c.busy c.passed stage) (eqb (spare (leb 25 stage) c.value) 0) (eqb (spare (eqb stage 20) c.read) 0)
+      (leb c.next 7) (can_be_at c.busy c.passed stage) (eqb (spare (leb 25 stage) c.value) 0) (eqb (spare (eqb stage 20) c.read) 0)
       (ltb (word_at c.address.0) (room_of c.busy words)) (ltb (word_at c.link.0) (room_of c.linked words))
       (c.busy || eqb c.operation 0) (c.busy || eqb c.next 0) (uses_passed c || not c.passed) (operation_fits c) (in_use_or0 (uses_value c) c.value) (in_use_or0 (uses_read c) c.read)
       (in_use_or0 c.busy c.address.0) (link_fields c) (not c.busy || inside bytes c.address) (not c.linked || inside bytes c.link) (place_fits count i c)
-      (stage_looks c.busy c.passed c.operation c.next) uses_alike (addresses_look count bytes i h e c.address.0 c.link.0 c.busy c.linked)
+      (stage_looks c.operation c.busy c.passed c.next) uses_alike (addresses_look count bytes i h e c.address.0 c.link.0 c.busy c.linked)
 
 -- where the sizes fit, the look at a core asks what the ranges ask of it
 alike : (m : Machine) → sizes_fit m ≡ true → (i : ℕ) → fits_at m i ≡ core_fits m.count m.bytes i (core_at m i)

@@ -2,13 +2,13 @@
 use Rattle.std.specs.Prelude.{◌≡◌, ℕ, ◌+◌, ◌%◌, Bool, true, not, ◌&&◌, List, Result, Some, Ok, Err, length, ◌==◌, ◌≢◌, nat_le, nat_lt, slice_index, if◌then◌else◌}
 use Rattle.rules.specs.Entry.{entry_of}
 use Rattle.rules.specs.Word.{read_word, write_word}
-use Rattle.rules.specs.Kinds.{address_of, poke_core, poke_kind}
+use Rattle.rules.specs.Operations.{address_of}
 use Rattle.rules.specs.Life.{given}
 use Rattle.rules.specs.Ranges.{core_at, in_ranges, damaged}
 use Rattle.rules.specs.Refusals.{Tested, no_refusal, unless_refused}
-use Rattle.rules.specs.Calls.{Outcome, outcome, refused, answered, with_core, address_refusal, poke_outcome, give_of, step_of, poke_of, show_of}
+use Rattle.rules.specs.Calls.{Outcome, outcome, refused, answered, with_core, address_refusal, poke_record, poke_outcome, give_of, step_of, poke_of, show_of}
 use Rattle.rules.specs.declared.entry.GuestAddress.{GuestAddress}
-use Rattle.rules.specs.declared.answers.Operation.{Operation}
+use Rattle.rules.specs.declared.operations.Operation.{Operation}
 use Rattle.rules.specs.declared.answers.Answer.TheVariants.{Taken, Poked, Word}
 use Rattle.rules.specs.declared.answers.Record.{Record}
 use Rattle.rules.specs.declared.refusals.Refusal.{Refusal}
@@ -70,7 +70,7 @@ poked_outcome made memory = record { made = made; memory = memory }
 unfoldable pub poke_word_of : ℕ → List ℕ → GuestAddress → ℕ → PokedOutcome
 poke_word_of bytes memory a value =
     unless_refused (known_word_refusal bytes (length memory) a) (λ r. poked_outcome (Err r) memory)
-    (poked_outcome (Ok (record { core = poke_core; kind = poke_kind; address = a; value = value })) (write_word memory a value))
+    (poked_outcome (Ok (poke_record a value)) (write_word memory a value))
 
 unfoldable pub show_word_of : ℕ → List ℕ → GuestAddress → Result ℕ Refusal
 show_word_of bytes memory a = unless_refused (known_word_refusal bytes (length memory) a) (λ r. Err r) (Ok (read_word memory a))

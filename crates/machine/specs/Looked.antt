@@ -1,12 +1,28 @@
 -- No rule of the document: what the code looks at in a core, with a test of several fields at once. Where the sizes fit it asks of the eight cores what the page Ranges.antt of `rules` asks (`no_sizes`, `a_core_out` and `all_looked` in proofs/Looking.antt), and no public contract cites it.
-use Rattle.std.specs.Prelude.{ℕ, ◌+◌, ◌*◌, ◌/◌, ◌%◌, ◌^◌, Bool, ◌&&◌, ◌==◌, nat_le, nat_lt, if◌then◌else◌}
+use Rattle.std.specs.Prelude.{ℕ, ◌+◌, ◌*◌, ◌/◌, ◌%◌, ◌^◌, Bool, ◌&&◌, Option, Some, None, ◌==◌, nat_le, nat_lt, if◌then◌else◌}
+use Rattle.rules.specs.Operations.{shape_of}
 use Rattle.rules.specs.Ranges.{core_at}
+use Rattle.rules.specs.declared.operations.Shape.{Shape}
+use Rattle.rules.specs.declared.operations.Shape.TheVariants.{Load, Locks}
+use Rattle.rules.specs.declared.operations.Locking.TheVariants.{Ll, Store, Sc}
 use Rattle.rules.specs.declared.cores.Core.{Core}
 use Rattle.rules.specs.declared.state.Machine.{Machine}
 
--- a core's stage: eight times its operation's number, and its next step
+-- the place of a shape among the stages, 7 where there is none
+abbrev pub shape_place : Option Shape → ℕ
+shape_place None = 7
+shape_place (Some Load) = 1
+shape_place (Some (Locks Ll)) = 2
+shape_place (Some (Locks Store)) = 3
+shape_place (Some (Locks Sc)) = 4
+
+-- the place of an operation's number: an idle core's is 0
+abbrev pub operation_place : ℕ → ℕ
+operation_place operation = if operation == 0 then 0 else shape_place (shape_of operation)
+
+-- a core's stage: eight times that place, and its next step
 abbrev pub stage_of : ℕ → ℕ → ℕ
-stage_of operation next = 8 * operation + next
+stage_of place next = 8 * place + next
 
 -- the stages that a core can be at, a bit for each: an idle core's
 abbrev pub idle_stages : ℕ
@@ -47,14 +63,14 @@ words_for count bytes i = if nat_lt i count then bytes / 4 else 0
 abbrev pub room_of : Bool → ℕ → ℕ
 room_of used words = if used then words else 1
 
--- a stage of the 64 that the core can be at, and its fields there
+-- a stage that the core can be at, and its fields there
 unfoldable pub looks_right_at : ℕ → Core → ℕ → Bool
 looks_right_at words c stage =
-    nat_le stage 63 && can_be_at c.busy c.passed stage && spare_are0 c stage
+    can_be_at c.busy c.passed stage && spare_are0 c stage
     && nat_lt (word_at c.address.0) (room_of c.busy words) && nat_lt (word_at c.link.0) (room_of c.linked words)
 
 unfoldable pub core_looks_right : ℕ → Core → Bool
-core_looks_right words c = nat_le c.next 7 && looks_right_at words c (stage_of c.operation c.next)
+core_looks_right words c = nat_le c.next 7 && looks_right_at words c (stage_of (operation_place c.operation) c.next)
 
 -- what is tested of the core at a place
 unfoldable pub fits_at : Machine → ℕ → Bool

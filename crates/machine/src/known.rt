@@ -141,12 +141,7 @@ pub fn poke_word(
 {
     word_refusal(bytes, memory.len(), address)?;
     word::write_word(memory, address, value);
-    Ok(Record {
-        core: 255,
-        kind: 6,
-        address,
-        value,
-    })
+    Ok(Record::of_poke(address, value))
 }
 
 // The word at an address.

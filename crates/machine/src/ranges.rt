@@ -2,9 +2,9 @@
 ghost use Rattle.std.specs.Prelude.{◌≡◌, ◌%◌, ◌<◌, ◌≤◌};
 ghost use Rattle.rules.specs.Sizes.{cores_fit, bytes_fit, entries_fit, tables_fit};
 ghost use Rattle.rules.specs.Ranges.{sizes_fit, in_ranges, damaged};
-ghost use Rattle.machine.specs.Looked.{can_be_at, spare, spare_are0, word_at, words_for, room_of, core_looks_right, fits_at};
+ghost use Rattle.machine.specs.Looked.{operation_place, can_be_at, spare, spare_are0, word_at, words_for, room_of, core_looks_right, fits_at};
 
-use rules::{Core, Machine};
+use rules::{Core, Locking, Machine, Shape};
 
 pub(crate) fn cores_fit(count: usize) -> bool
     ensures { result ≡ cores_fit count }
@@ -37,7 +37,24 @@ fn sizes_fit(m: &Machine) -> bool
     cores_fit(m.count) && bytes_fit(m.bytes) && entries_fit(m.entries)
 }
 
-// The stages that a core can be at, a bit for each: eight times its operation's number, and its next step.
+// The place of an operation's shape among the stages: an idle core's is 0, and 7 that of a number that is no operation's.
+fn operation_place(operation: u8) -> u64
+    ensures value { result ≡ operation_place operation }
+    ensures upper_bound { result ≤ 7 }
+{
+    if operation == 0 {
+        return 0;
+    }
+    match Shape::of(operation) {
+        None => 7,
+        Some(Shape::Load) => 1,
+        Some(Shape::Locks(Locking::Ll)) => 2,
+        Some(Shape::Locks(Locking::Store)) => 3,
+        Some(Shape::Locks(Locking::Sc)) => 4,
+    }
+}
+
+// The stages that a core can be at, a bit for each: eight times its operation's place, and its next step.
 const IDLE: u64 = 1;
 // load 1; ll, store and sc 1 to 4.
 const BUSY: u64 = 129354301952;
@@ -101,10 +118,11 @@ fn room_of(used: bool, words: u32) -> u32
 fn core_looks_right(words: u32, c: Core) -> bool
     ensures { result ≡ core_looks_right words c }
 {
-    let stage = 8 * u64::from(c.operation) + u64::from(c.next);
-    c.next <= 7
-        && stage <= 63
-        && can_be_at(c, stage)
+    if 7 < c.next {
+        return false;
+    }
+    let stage = 8 * operation_place(c.operation) + u64::from(c.next);
+    can_be_at(c, stage)
         && spare_are_0(c, stage)
         && word_at(c.address.0) < room_of(c.busy, words)
         && word_at(c.link.0) < room_of(c.linked, words)
@@ -147,5 +165,5 @@ pub(crate) fn damaged(count: usize, me: u8, c: Core, owner: u8, holder: u8) -> b
     let holder_beyond = count < usize::from(holder);
     let lost = 2 <= c.next && holder != mark;
     let early = c.next == 1 && holder == mark;
-    c.operation != 1 && (owner_beyond || holder_beyond || lost || early)
+    Shape::of(c.operation) != Some(Shape::Load) && (owner_beyond || holder_beyond || lost || early)
 }

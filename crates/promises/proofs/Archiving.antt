@@ -1,28 +1,33 @@
 -- The records of a run are good, and so the run can be archived.
 -- Assumes nothing.
-use Rattle.std.proofs.Common.{Option, Some, None, ap, if◌then◌else◌}
+use Rattle.std.proofs.Common.{Option, Some, None, is_some, if◌then◌else◌}
 use mathlib.Core.Path.{◌≡◌, refl, sym, ap, subst, ◌∙◌}
-use mathlib.Core.Bool.{Bool, true, false, ◌&&◌}
+use mathlib.Core.Bool.{Bool, true, false, ◌&&◌, false≢true}
 use mathlib.Core.List.{List, [], ◌∷◌, reverse, reverse_aux}
 use Prim.Native.Nat.{ℕ, zero, suc, ◌^◌, ◌≤◌, ◌<◌}
 use native.Mathlib.Omega.{arith}
 use lib.ListN.{length, replicate, length-reverse}
 use lib.Dec.{eqb, leb}
 use borrow.Author.Tests.{eqb-true, eq-eqb, le-leb, lt-ltb}
-use Rattle.rules.specs.Word.{read_word}
-use Rattle.rules.specs.Kinds.{address_of, value_of, poke_core, poke_kind}
+use Rattle.rules.specs.Word.{read_word, write_word}
+use Rattle.rules.specs.Operations.{code_of, address_of, value_of, shape_of, kind_of, shape}
 use Rattle.rules.specs.Refusals.{number_in}
-use Rattle.rules.specs.Calls.{Outcome}
+use Rattle.rules.specs.Calls.{Outcome, poke_record}
 use Rattle.rules.specs.Laws.{Bytes}
 use Rattle.rules.specs.History.{History, succeeds}
-use Rattle.rules.specs.Reference.{Whole, does, pokes, Reference, refer, finish, sc_done, sc_failed}
+use Rattle.rules.specs.Reference.{Whole, does, pokes, Reference, refer, access_of, write_done, sc_failed, finish_by, finish}
 use Rattle.rules.specs.Runs.{Call, give, step, poke, Fresh, act, after, records, given_to, last_of, at_access, in_order, entry_rule}
 use Rattle.rules.specs.declared.entry.GuestAddress.{GuestAddress}
 use Rattle.rules.specs.declared.entry.EntryNumber.{EntryNumber}
-use Rattle.rules.specs.declared.answers.Operation.{Operation}
+use Rattle.rules.specs.declared.operations.Operation.{Operation}
+use Rattle.rules.specs.declared.operations.Shape.{Shape}
+use Rattle.rules.specs.declared.operations.Shape.TheVariants.{Load, Locks}
+use Rattle.rules.specs.declared.operations.Locking.TheVariants.{Ll, Store, Sc}
 use Rattle.rules.specs.declared.answers.Record.{Record}
-use Rattle.rules.specs.declared.answers.Operation.TheVariants as Asked
 use Rattle.rules.proofs.Accepted.{Inside, sizes_fit_lem, core_small, give_accepted, step_accepted, word_accepted}
+use Rattle.rules.specs.declared.answers.Delivered.TheVariants as Answered
+use Rattle.rules.proofs.Bools.{and₂}
+use Rattle.rules.proofs.Shapes.{shape_given}
 use Rattle.rules.proofs.Numbers.{by_zero, not_refused, start_number, give_number, step_number, poke_number}
 use Rattle.rules.proofs.Words.{word_laws}
 use Rattle.rules.proofs.Lawful.{refusal_laws, range_laws}
@@ -54,27 +59,52 @@ abbrev GoodWholes : List Whole → Type 0
 GoodWholes [] = Unit {0}
 GoodWholes (w ∷ ws) = GoodWhole w × GoodWholes ws
 
--- a core's record of a kind from 1 to 5
-good_access : (c kind : ℕ) (a : GuestAddress) (v : ℕ) → c < 8 → leb 1 kind ≡ true → leb kind 5 ≡ true → address_good a.0 ≡ true → v < 2 ^ 32 → GoodRecord (record { core = c; kind = kind; address = a; value = v })
-unfolding kind_good
-good_access c kind a v small low high address value = record { good = rw (low, high, le-leb c 7 (omega arith), address); value = value }
+-- an operation makes records of a core's kinds
+kinds_made : (operation : ℕ) (passed : Bool) → is_some (shape_of operation) ≡ true → leb 1 (kind_of operation passed) && leb (kind_of operation passed) 5 ≡ true
+unfolding shape_of kind_of
+kinds_made operation passed h = go (eqb operation 1) (eqb operation 2) (eqb operation 3) (eqb operation 4) passed h
+  where
+    go : (load ll store sc p : Bool) → is_some (if load then Some Load else if ll then Some (Locks Ll) else if store then Some (Locks Store) else if sc then Some (Locks Sc) else None) ≡ true
+        → leb 1 (if load then 1 else if ll then 2 else if store then 3 else if sc then if p then 4 else 5 else 0) && leb (if load then 1 else if ll then 2 else if store then 3 else if sc then if p then 4 else 5 else 0) 5 ≡ true
+    go true ll store sc p h = refl
+    go false true store sc p h = refl
+    go false false true sc p h = refl
+    go false false false true true h = refl
+    go false false false true false h = refl
+    go false false false false p h = absurd (false≢true h)
 
-good_poke : (a : GuestAddress) (v : ℕ) → address_good a.0 ≡ true → v < 2 ^ 32 → GoodRecord (record { core = poke_core; kind = poke_kind; address = a; value = v })
+good_access : (c : ℕ) (o : Operation) (passed : Bool) (v : ℕ) → c < 8 → address_good (address_of o).0 ≡ true → v < 2 ^ 32 → GoodRecord (access_of c o passed v)
+unfolding kind_good
+good_access c o passed v small address value =
+    let k = and₂ (leb 1 (kind_of (code_of o) passed)) (leb (kind_of (code_of o) passed) 5) (kinds_made (code_of o) passed (ap is_some (shape_given o))) in
+    record { good = rw (k.0, k.1, le-leb c 7 (omega arith), address); value = value }
+
+good_poke : (a : GuestAddress) (v : ℕ) → address_good a.0 ≡ true → v < 2 ^ 32 → GoodRecord (poke_record a v)
 unfolding kind_good
 good_poke a v address value = record { good = rw address; value = value }
 
 -- the reference's history is good, and its memory is bytes
 module _ (entry : GuestAddress → EntryNumber) where
-  finish_good : (ref : Reference) (c : ℕ) (o : Operation) → Bytes ref.memory → (c < 8) × GoodOperation o → GoodRecord (finish entry ref c o).access × Bytes (finish entry ref c o).memory
-  unfolding finish
-  finish_good ref c (Asked.Load a) bytes g = (good_access c 1 a (read_word ref.memory a) g.0 refl refl g.1.address (word_laws.a_word ref.memory a bytes), bytes)
-  finish_good ref c (Asked.Ll a) bytes g = (good_access c 2 a (read_word ref.memory a) g.0 refl refl g.1.address (word_laws.a_word ref.memory a bytes), bytes)
-  finish_good ref c (Asked.Store a v) bytes g = (good_access c 3 a v g.0 refl refl g.1.address g.1.value, word_laws.bytes_stay ref.memory a v bytes)
-  finish_good ref c (Asked.Sc a v) bytes g = go (succeeds entry c a ref.history)
-    where
-      go : (t : Bool) → GoodRecord (if t then sc_done c a v ref else sc_failed c a v ref).access × Bytes (if t then sc_done c a v ref else sc_failed c a v ref).memory
-      go true = (good_access c 4 a v g.0 refl refl g.1.address g.1.value, word_laws.bytes_stay ref.memory a v bytes)
-      go false = (good_access c 5 a v g.0 refl refl g.1.address g.1.value, bytes)
+  module _ (ref : Reference) (c : ℕ) (o : Operation) (bytes : Bytes ref.memory) (g : (c < 8) × GoodOperation o) where
+    wrote : (passed : Bool) → GoodRecord (access_of c o passed (value_of o)) × Bytes (write_word ref.memory (address_of o) (value_of o))
+    wrote passed = (good_access c o passed (value_of o) g.0 g.1.address g.1.value, word_laws.bytes_stay ref.memory (address_of o) (value_of o) bytes)
+
+    read : GoodRecord (access_of c o false (read_word ref.memory (address_of o))) × Bytes ref.memory
+    read = (good_access c o false (read_word ref.memory (address_of o)) g.0 g.1.address (word_laws.a_word ref.memory (address_of o) bytes), bytes)
+
+    finish_good : GoodRecord (finish entry ref c o).access × Bytes (finish entry ref c o).memory
+    unfolding finish
+    finish_good = go (shape o)
+      where
+        sc : (t : Bool) → GoodRecord (if t then write_done ref c o true (Answered.Sc 0) else sc_failed ref c o).access × Bytes (if t then write_done ref c o true (Answered.Sc 0) else sc_failed ref c o).memory
+        sc true = wrote true
+        sc false = (good_access c o false (value_of o) g.0 g.1.address g.1.value, bytes)
+
+        go : (s : Shape) → GoodRecord (finish_by s entry ref c o).access × Bytes (finish_by s entry ref c o).memory
+        go Load = read
+        go (Locks Ll) = read
+        go (Locks Store) = wrote false
+        go (Locks Sc) = sc (succeeds entry c (address_of o) ref.history)
 
   refer_good : (zeros : List ℕ) → Bytes zeros → (ws : List Whole) → GoodWholes ws → AllGood (refer entry zeros ws).history × Bytes (refer entry zeros ws).memory
   unfolding refer

@@ -4,55 +4,82 @@ use Rattle.std.proofs.Common.{if◌then◌else◌}
 use Rattle.std.proofs.lemmas.Bool.{false_from_ne_true, not-true}
 use mathlib.Core.Path.{◌≡◌, refl, sym, ap, ◌∙◌}
 use mathlib.Core.Logic.{◌⊎◌, inl, inr}
-use mathlib.Core.Bool.{Bool, true, false, not, ◌||◌, true≢false, false≢true}
+use mathlib.Core.Bool.{Bool, true, false, not, true≢false, false≢true}
 use mathlib.Core.List.{[], ◌∷◌, ◌++◌}
 use Prim.Native.Nat.{ℕ}
+use native.Mathlib.Omega.{arith}
 use lib.Dec.{eqb}
 use borrow.Author.Tests.{eqb-true, eqb-false, eq-eqb, ne_eqb}
+use Rattle.rules.specs.Kinds.{kind_number, KindRule, rule_of, no_rule, rule_at, linking, unlinking, spoiling, links_kind, unlinks_kind, spoils_kind}
 use Rattle.rules.specs.History.{History, own_ll, own_sc, spoils, succeeds}
 use Rattle.rules.specs.declared.entry.GuestAddress.{GuestAddress}
 use Rattle.rules.specs.declared.entry.EntryNumber.{EntryNumber}
+use Rattle.rules.specs.declared.kinds.Kind.{Kind}
+use Rattle.rules.specs.declared.kinds.Kind.TheVariants.{Ll, Store, Success, Failure}
 use Rattle.rules.specs.declared.answers.Record.{Record}
-use Rattle.rules.proofs.Bools.{and₂, and₃, or_true}
+use Rattle.rules.proofs.Bools.{and₂, and₃}
+use Rattle.rules.proofs.Shapes.{rule_numbered, by_number}
 use Rattle.promises.specs.Success.{Never, LlBy, ScBy, SpoiledBy, LatestLl, Succeeds}
+
+-- the kinds that each test of a row tells
+
+abbrev ScKind : ℕ → Type 0
+ScKind kind = (kind ≡ kind_number Success) ⊎ (kind ≡ kind_number Failure)
+
+abbrev SpoilingKind : ℕ → Type 0
+SpoilingKind kind = (kind ≡ kind_number Ll) ⊎ ((kind ≡ kind_number Store) ⊎ (kind ≡ kind_number Success))
+
+-- what a test tells of a number holds, if it holds of each kind's and if of no kind's the test is false
+told_of : (test : KindRule → Bool) (P : ℕ → Type 0) → test no_rule ≡ false → ((k : Kind) → test (rule_of k) ≡ true → P (kind_number k)) → (kind : ℕ) → test (rule_at kind) ≡ true → P kind
+told_of test P none known =
+    by_number (λ (kind : ℕ). test (rule_at kind) ≡ true → P kind)
+    (λ k h. known k (ap test (sym (rule_numbered k)) ∙ h))
+    (λ kind e h. absurd (false≢true (sym none ∙ ap test (sym e) ∙ h)))
+
+-- and it is told of a kind that it holds of
+of_kind : (test : KindRule → Bool) (k : Kind) → test (rule_of k) ≡ true → {kind : ℕ} → kind ≡ kind_number k → test (rule_at kind) ≡ true
+of_kind test k h e = ap (λ (n : ℕ). test (rule_at n)) e ∙ ap test (rule_numbered k) ∙ h
+
+links_is : (kind : ℕ) → links_kind kind ≡ true → kind ≡ kind_number Ll
+links_is = told_of (λ (rule : KindRule). linking rule.link) (λ (kind : ℕ). kind ≡ kind_number Ll) refl known
+  where
+    known : (k : Kind) → linking (rule_of k).link ≡ true → kind_number k ≡ kind_number Ll
+    known k h = grind arith
+
+unlinks_is : (kind : ℕ) → unlinks_kind kind ≡ true → ScKind kind
+unlinks_is = told_of (λ (rule : KindRule). unlinking rule.link) ScKind refl known
+  where
+    known : (k : Kind) → unlinking (rule_of k).link ≡ true → ScKind (kind_number k)
+    known k h = grind arith
+
+spoils_is : (kind : ℕ) → spoils_kind kind ≡ true → SpoilingKind kind
+spoils_is = told_of (λ (rule : KindRule). spoiling rule.mark) SpoilingKind refl known
+  where
+    known : (k : Kind) → spoiling (rule_of k).mark ≡ true → SpoilingKind (kind_number k)
+    known k h = grind arith
+
+is_unlinks : (kind : ℕ) → ScKind kind → unlinks_kind kind ≡ true
+is_unlinks kind (inl e) = of_kind (λ (rule : KindRule). unlinking rule.link) Success refl e
+is_unlinks kind (inr e) = of_kind (λ (rule : KindRule). unlinking rule.link) Failure refl e
+
+is_spoils : (kind : ℕ) → SpoilingKind kind → spoils_kind kind ≡ true
+is_spoils kind (inl e) = of_kind (λ (rule : KindRule). spoiling rule.mark) Ll refl e
+is_spoils kind (inr (inl e)) = of_kind (λ (rule : KindRule). spoiling rule.mark) Store refl e
+is_spoils kind (inr (inr e)) = of_kind (λ (rule : KindRule). spoiling rule.mark) Success refl e
 
 -- tests and what they test
 
--- one of two numbers, as a test and as a sum
-one_of : (x m n : ℕ) → eqb x m || eqb x n ≡ true → (x ≡ m) ⊎ (x ≡ n)
-one_of x m n h = go (eqb x m) refl h
-  where
-    go : (t : Bool) → eqb x m ≡ t → t || eqb x n ≡ true → (x ≡ m) ⊎ (x ≡ n)
-    go true e k = inl (eqb-true x m e)
-    go false e k = inr (eqb-true x n k)
-
-of_one : (x m n : ℕ) → (x ≡ m) ⊎ (x ≡ n) → eqb x m || eqb x n ≡ true
-of_one x m n (inl p) = rw (eq-eqb x m p)
-of_one x m n (inr p) = rw (eq-eqb x n p) (or_true (eqb x m))
-
--- one of three
-one_of_three : (x k m n : ℕ) → eqb x k || (eqb x m || eqb x n) ≡ true → (x ≡ k) ⊎ ((x ≡ m) ⊎ (x ≡ n))
-one_of_three x k m n h = go (eqb x k) refl h
-  where
-    go : (t : Bool) → eqb x k ≡ t → t || (eqb x m || eqb x n) ≡ true → (x ≡ k) ⊎ ((x ≡ m) ⊎ (x ≡ n))
-    go true e q = inl (eqb-true x k e)
-    go false e q = inr (one_of x m n q)
-
-of_one_of_three : (x k m n : ℕ) → (x ≡ k) ⊎ ((x ≡ m) ⊎ (x ≡ n)) → eqb x k || (eqb x m || eqb x n) ≡ true
-of_one_of_three x k m n (inl p) = rw (eq-eqb x k p)
-of_one_of_three x k m n (inr q) = rw (of_one x m n q) (or_true (eqb x k))
-
 pub ll_by : (c : ℕ) (r : Record) → own_ll c r ≡ true → LlBy c r
-ll_by c r h = let t = and₂ (eqb r.core c) (eqb r.kind 2) h in (eqb-true _ _ t.0, eqb-true _ _ t.1)
+ll_by c r h = let t = and₂ (eqb r.core c) (links_kind r.kind) h in (eqb-true _ _ t.0, links_is r.kind t.1)
 
 pub by_ll : (c : ℕ) (r : Record) → LlBy c r → own_ll c r ≡ true
-by_ll c r h = rw (eq-eqb _ _ h.0, eq-eqb _ _ h.1)
+by_ll c r h = rw (eq-eqb _ _ h.0, of_kind (λ (rule : KindRule). linking rule.link) Ll refl h.1)
 
 pub sc_by : (c : ℕ) (r : Record) → own_sc c r ≡ true → ScBy c r
-sc_by c r h = let t = and₂ (eqb r.core c) (eqb r.kind 4 || eqb r.kind 5) h in (eqb-true _ _ t.0, one_of r.kind 4 5 t.1)
+sc_by c r h = let t = and₂ (eqb r.core c) (unlinks_kind r.kind) h in (eqb-true _ _ t.0, unlinks_is r.kind t.1)
 
 pub by_sc : (c : ℕ) (r : Record) → ScBy c r → own_sc c r ≡ true
-by_sc c r h = rw (eq-eqb _ _ h.0, of_one r.kind 4 5 h.1)
+by_sc c r h = rw (eq-eqb _ _ h.0, is_unlinks r.kind h.1)
 
 same_entry : (d e : EntryNumber) → d.0 ≡ e.0 → d ≡ e
 same_entry d e p = λ i. record { 0 = p i }
@@ -60,12 +87,12 @@ same_entry d e p = λ i. record { 0 = p i }
 module _ (entry : GuestAddress → EntryNumber) (c : ℕ) (a : GuestAddress) where
   pub spoiled_by : (r : Record) → spoils entry c a r ≡ true → SpoiledBy entry c a r
   spoiled_by r h =
-      let t = and₃ (not (eqb r.core c)) (eqb r.kind 2 || (eqb r.kind 3 || eqb r.kind 4)) (eqb (entry r.address).0 (entry a).0) h in
-      (eqb-false _ _ (not-true _ t.0), one_of_three r.kind 2 3 4 t.1, same_entry (entry r.address) (entry a) (eqb-true _ _ t.2))
+      let t = and₃ (not (eqb r.core c)) (spoils_kind r.kind) (eqb (entry r.address).0 (entry a).0) h in
+      (eqb-false _ _ (not-true _ t.0), spoils_is r.kind t.1, same_entry (entry r.address) (entry a) (eqb-true _ _ t.2))
 
   pub by_spoiled : (r : Record) → SpoiledBy entry c a r → spoils entry c a r ≡ true
   by_spoiled r h =
-      rw (ne_eqb r.core c h.0, of_one_of_three r.kind 2 3 4 h.1, eq-eqb (entry r.address).0 (entry a).0 (ap (λ (e : EntryNumber). e.0) h.2))
+      rw (ne_eqb r.core c h.0, is_spoils r.kind h.1, eq-eqb (entry r.address).0 (entry a).0 (ap (λ (e : EntryNumber). e.0) h.2))
 
   -- one access more since the latest ll
   abbrev pub later : (r : Record) (h : History) → (LlBy c r → ⊥) → LatestLl c h → LatestLl c (r ∷ h)

@@ -11,7 +11,7 @@ use lib.Dec.{leb, eqb}
 use borrow.Author.Tests.{eqb-true, eqb-false, eq-eqb, ne_eqb, le-ltb, leb-true}
 use Rattle.rules.specs.Sizes.{written}
 use Rattle.rules.specs.Entry.{entry_of}
-use Rattle.rules.specs.Kinds.{is_load, code_of, address_of}
+use Rattle.rules.specs.Operations.{code_of, address_of, shape_of, a_load}
 use Rattle.rules.specs.Ranges.{core_at, damaged}
 use Rattle.rules.specs.Refusals.{Tested, no_refusal, number_in}
 use Rattle.rules.specs.declared.refusals.Refusal.TheVariants.{NoSuchCore, Unaligned, Outside, Damaged, Busy, Idle}
@@ -19,11 +19,11 @@ use Rattle.rules.specs.Calls.{Outcome, address_refusal, entry_at, mark_at, give_
 use Rattle.rules.specs.History.{Link, link_of}
 use Rattle.rules.specs.Runs.{Call, give, step, poke, Fresh, act, after, records, given_to, delivered_to, in_order, entry_rule}
 use Rattle.rules.specs.declared.entry.GuestAddress.{GuestAddress}
-use Rattle.rules.specs.declared.answers.Operation.{Operation}
+use Rattle.rules.specs.declared.operations.Operation.{Operation}
 use Rattle.rules.specs.declared.cores.Core.{Core}
 use Rattle.rules.proofs.Accepted.{lent}
 use Rattle.rules.proofs.Numbers.{of_both, give_number, step_number, poke_number}
-use Rattle.rules.proofs.Phases.{Locked, ll, store, sc, operation_of, Phase, rests, loads, asks, holds, reaches, leaves, picture}
+use Rattle.rules.proofs.Phases.{Locked, shape_at, Phase, rests, loads, asks, holds, reaches, ends, picture}
 use Rattle.rules.proofs.Running.{CoreOk, Inv}
 use Rattle.rules.proofs.Invariant.{run_inv}
 use Rattle.promises.specs.Standing.{Inside, Stands, Standing}
@@ -51,7 +51,7 @@ not_damaged : (count me : ℕ) (c : Core) (owner holder : ℕ) → owner ≤ cou
     → damaged count me c owner holder ≡ false
 unfolding damaged
 not_damaged count me c owner holder os hs held open' =
-    and_if (not (is_load c.operation)) _ (λ p.
+    and_if (not (a_load (shape_of c.operation))) _ (λ p.
     rw (
       le-ltb count owner os,
       le-ltb count holder hs,
@@ -60,18 +60,16 @@ not_damaged count me c owner holder os hs held open' =
     ))
 
 -- what a phase's picture shows
-code_locked : (l : Locked) → is_load (code_of (operation_of l)) ≡ false
-code_locked (ll a) = refl
-code_locked (store a v) = refl
-code_locked (sc a v) = refl
+code_locked : (l : Locked) → a_load (shape_of (code_of l.operation)) ≡ false
+code_locked l = rw (shape_at l)
 
 link_shown : (p : Phase) (k : Link) → ((picture p k).linked ≡ k.linked) × ((picture p k).link ≡ k.link)
 link_shown rests k = (refl, refl)
-link_shown (loads a) k = (refl, refl)
+link_shown (loads l) k = (refl, refl)
 link_shown (asks l) k = (refl, refl)
 link_shown (holds l) k = (refl, refl)
 link_shown (reaches l passed) k = (refl, refl)
-link_shown (leaves l passed read) k = (refl, refl)
+link_shown (ends l passed read) k = (refl, refl)
 
 module _ (fresh : Outcome) (f : Fresh fresh) (calls : List Call) where
   abbrev o : Outcome
@@ -89,29 +87,29 @@ module _ (fresh : Outcome) (f : Fresh fresh) (calls : List Call) where
   -- a holder is inside, and who is inside holds
   inside_shown : (i e : ℕ) (p : Phase) → Ok i p → get_or o.holders e 0 ≡ written i → Inside fresh (picture p (link_of i (records fresh calls))) e
   inside_shown i e rests ok q = absurd (ok.held e q)
-  inside_shown i e (loads a) ok q = absurd (ok.held e q)
+  inside_shown i e (loads l) ok q = absurd (ok.held e q)
   inside_shown i e (asks l) ok q = absurd (ok.held e q)
   inside_shown i e (holds l) ok q = record { busy = refl; locked = code_locked l; from_2 = omega arith; here = ok.held e q }
   inside_shown i e (reaches l passed) ok q = record { busy = refl; locked = code_locked l; from_2 = omega arith; here = ok.held e q }
-  inside_shown i e (leaves l passed read) ok q = record { busy = refl; locked = code_locked l; from_2 = omega arith; here = ok.held e q }
+  inside_shown i e (ends l passed read) ok q = record { busy = refl; locked = code_locked l; from_2 = omega arith; here = ok.held e q }
 
   holds_shown : (i e : ℕ) (p : Phase) → Ok i p → 2 ≤ (picture p (link_of i (records fresh calls))).next → (entry_rule fresh (picture p (link_of i (records fresh calls))).address).0 ≡ e
       → get_or o.holders e 0 ≡ written i
   holds_shown i e rests ok from here = absurd (omega arith)
-  holds_shown i e (loads a) ok from here = absurd (omega arith)
+  holds_shown i e (loads l) ok from here = absurd (omega arith)
   holds_shown i e (asks l) ok from here = absurd (omega arith)
   holds_shown i e (holds l) ok from here = ap (λ (j : ℕ). get_or o.holders j 0) (sym here) ∙ ok.table.0
   holds_shown i e (reaches l passed) ok from here = ap (λ (j : ℕ). get_or o.holders j 0) (sym here) ∙ ok.table.0
-  holds_shown i e (leaves l passed read) ok from here = ap (λ (j : ℕ). get_or o.holders j 0) (sym here) ∙ ok.table.0
+  holds_shown i e (ends l passed read) ok from here = ap (λ (j : ℕ). get_or o.holders j 0) (sym here) ∙ ok.table.0
 
   -- who has not taken the lock does not hold it
   outside_shown : (i e : ℕ) (p : Phase) → Ok i p → (picture p (link_of i (records fresh calls))).next ≡ 1 → get_or o.holders e 0 ≡ written i → ⊥
   outside_shown i e rests ok one q = ok.held e q
-  outside_shown i e (loads a) ok one q = ok.held e q
+  outside_shown i e (loads l) ok one q = ok.held e q
   outside_shown i e (asks l) ok one q = ok.held e q
   outside_shown i e (holds l) ok one q = eqb-false 2 1 refl one
   outside_shown i e (reaches l passed) ok one q = eqb-false 3 1 refl one
-  outside_shown i e (leaves l passed read) ok one q = eqb-false 4 1 refl one
+  outside_shown i e (ends l passed read) ok one q = eqb-false 4 1 refl one
 
   holder_is_inside : (e i : ℕ) → get_or o.holders e 0 ≡ written i → Inside fresh (core_at o.called.machine i) e
   holder_is_inside e i q = subst (λ (y : Core). Inside fresh y e) (sym (inv.cores i).core) (inside_shown i e (inv.phase i) (inv.cores i) q)

@@ -1,6 +1,6 @@
 -- "in the evening the run goes into an archive": the records of every run from a fresh machine are good records, so a run can always be archived, up to 17.
 use Rattle.std.specs.Prelude.{◌≡◌, List, [], ◌∷◌, ◌++◌, reverse, ℕ, ◌≤◌, ◌<◌, ◌^◌, length}
-use Rattle.rules.specs.Kinds.{value_of}
+use Rattle.rules.specs.Operations.{value_of}
 use Rattle.rules.specs.Calls.{Outcome}
 use Rattle.rules.specs.Runs.{Call, give, step, poke, Fresh, records}
 use Rattle.archive.specs.Promises.{AllGood, most_records, run, fresh_run, adds, Close}

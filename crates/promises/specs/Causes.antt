@@ -3,8 +3,7 @@ use Rattle.std.specs.Prelude.{◌≡◌, ℕ}
 use Rattle.rules.specs.History.{History}
 use Rattle.rules.specs.declared.entry.GuestAddress.{GuestAddress}
 use Rattle.rules.specs.declared.entry.EntryNumber.{EntryNumber}
-use Rattle.promises.specs.Success.{Never, ScBy, SpoiledBy, LatestLl}
-use Rattle.promises.specs.Riscv.{Some}
+use Rattle.promises.specs.Success.{Never, Some, ScBy, SpoiledBy, LatestLl}
 
 -- a link: an ll of the core, its latest, and no sc of it since
 pub record Linked (c : ℕ) (history : History) : Type 0 where

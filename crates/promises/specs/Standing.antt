@@ -1,7 +1,7 @@
 -- How the table stands in every run from a fresh machine.
 use Rattle.std.specs.Prelude.{◌≡◌, true, false, List, ℕ, ◌≤◌, ◌<◌, get_or}
 use Rattle.rules.specs.Sizes.{written}
-use Rattle.rules.specs.Kinds.{is_load}
+use Rattle.rules.specs.Operations.{shape_of, a_load}
 use Rattle.rules.specs.Ranges.{core_at}
 use Rattle.rules.specs.Refusals.{number_in}
 use Rattle.rules.specs.Calls.{Outcome}
@@ -12,7 +12,7 @@ use Rattle.rules.specs.declared.cores.Core.{Core}
 -- a core inside steps 2 to 4 of a locked operation at an entry
 pub record Inside (fresh : Outcome) (c : Core) (e : ℕ) : Type 0 where
   pub busy : c.busy ≡ true
-  pub locked : is_load c.operation ≡ false
+  pub locked : a_load (shape_of c.operation) ≡ false
   pub from_2 : 2 ≤ c.next
   pub here : (entry_rule fresh c.address).0 ≡ e
 

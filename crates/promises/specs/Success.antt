@@ -1,8 +1,10 @@
 -- Document 01, "When a store-conditional succeeds": the rule as it is worded, over the history of access steps, the latest first. `entry` is the entry rule.
 use Rattle.std.specs.Prelude.{◌≡◌, ◌⊎◌, [], ◌∷◌, ◌++◌, ℕ}
+use Rattle.rules.specs.Kinds.{kind_number}
 use Rattle.rules.specs.History.{History}
 use Rattle.rules.specs.declared.entry.GuestAddress.{GuestAddress}
 use Rattle.rules.specs.declared.entry.EntryNumber.{EntryNumber}
+use Rattle.rules.specs.declared.kinds.Kind.TheVariants.{Ll, Store, Success, Failure}
 use Rattle.rules.specs.declared.answers.Record.{Record}
 
 -- no access of the history is of this sort
@@ -10,16 +12,20 @@ abbrev pub Never : (Record → Type 0) → History → Type 0
 Never sort [] = Unit {0}
 Never sort (r ∷ h) = (sort r → ⊥) × Never sort h
 
+-- some access of it is
+abbrev pub Some : (Record → Type 0) → History → Type 0
+Some sort h = Never sort h → ⊥
+
 -- an ll by a core; an sc by it, whether it succeeded or not
 abbrev pub LlBy : ℕ → Record → Type 0
-LlBy c r = (r.core ≡ c) × (r.kind ≡ 2)
+LlBy c r = (r.core ≡ c) × (r.kind ≡ kind_number Ll)
 
 abbrev pub ScBy : ℕ → Record → Type 0
-ScBy c r = (r.core ≡ c) × ((r.kind ≡ 4) ⊎ (r.kind ≡ 5))
+ScBy c r = (r.core ≡ c) × ((r.kind ≡ kind_number Success) ⊎ (r.kind ≡ kind_number Failure))
 
 -- "another core has done an ll, a store or a successful sc at any address with the same entry"
 abbrev pub SpoiledBy : (GuestAddress → EntryNumber) → ℕ → GuestAddress → Record → Type 0
-SpoiledBy entry c a r = (r.core ≡ c → ⊥) × ((r.kind ≡ 2) ⊎ ((r.kind ≡ 3) ⊎ (r.kind ≡ 4))) × (entry r.address ≡ entry a)
+SpoiledBy entry c a r = (r.core ≡ c → ⊥) × ((r.kind ≡ kind_number Ll) ⊎ ((r.kind ≡ kind_number Store) ⊎ (r.kind ≡ kind_number Success))) × (entry r.address ≡ entry a)
 
 -- "c has done an ll": the latest, what was before it and what has been since
 pub record LatestLl (c : ℕ) (history : History) : Type 0 where

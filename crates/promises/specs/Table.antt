@@ -1,6 +1,8 @@
 -- Document 01, "Small runs": "3 cores, 64 bytes, 4 entries, fresh, each operation run whole. Marked P: proved."
 use Rattle.std.specs.Prelude.{◌≡◌, List, [], ◌∷◌, ◌++◌, ℕ, replicate}
 use Rattle.rules.specs.Word.{read_word}
+use Rattle.rules.specs.Kinds.{kind_number}
+use Rattle.rules.specs.Operations.{shape}
 use Rattle.rules.specs.Calls.{Outcome, start_of}
 use Rattle.rules.specs.Reference.{Whole, does, pokes}
 use Rattle.rules.specs.Runs.{Call, give, step, poke, act, after, with_answer, Fresh}
@@ -8,20 +10,24 @@ use Rattle.rules.specs.History.{History}
 use Rattle.rules.specs.declared.answers.Record.{Record}
 use Rattle.archive.specs.Check.{fletcher}
 use Rattle.promises.specs.Demand2.{At}
-use Rattle.rules.specs.declared.answers.Operation.TheVariants as Asked
-use Rattle.rules.specs.declared.answers.Answer.{Answer}
-use Rattle.rules.specs.declared.answers.Answer.TheVariants as Answered
+use Rattle.rules.specs.declared.kinds.Kind.TheVariants.{Success, Failure}
+use Rattle.rules.specs.declared.operations.Operation.TheVariants as Asked
+use Rattle.rules.specs.declared.operations.Shape.{Shape}
+use Rattle.rules.specs.declared.operations.Shape.TheVariants.{Load, Locks}
+use Rattle.rules.specs.declared.answers.Delivered.{Delivered}
+use Rattle.rules.specs.declared.answers.Delivered.TheVariants as Answered
 
 -- "3 cores, 64 bytes, 4 entries, fresh"
 unfoldable pub small : Outcome
 small = start_of 3 (replicate 64 0) (replicate 4 0) (replicate 4 0)
 
 -- "each operation run whole": given, and stepped to its end; the latest call first
+abbrev pub steps_of : Shape → ℕ → List Call
+steps_of Load c = step c ∷ []
+steps_of (Locks l) c = step c ∷ step c ∷ step c ∷ step c ∷ []
+
 abbrev pub calls_of : Whole → List Call
-calls_of (does c (Asked.Load a)) = step c ∷ give c (Asked.Load a) ∷ []
-calls_of (does c (Asked.Ll a)) = step c ∷ step c ∷ step c ∷ step c ∷ give c (Asked.Ll a) ∷ []
-calls_of (does c (Asked.Store a v)) = step c ∷ step c ∷ step c ∷ step c ∷ give c (Asked.Store a v) ∷ []
-calls_of (does c (Asked.Sc a v)) = step c ∷ step c ∷ step c ∷ step c ∷ give c (Asked.Sc a v) ∷ []
+calls_of (does c o) = steps_of (shape o) c ++ give c o ∷ []
 calls_of (pokes a v) = poke a v ∷ []
 
 -- a run that is written in its order
@@ -30,7 +36,7 @@ played [] before = before
 played (w ∷ ws) before = played ws (calls_of w ++ before)
 
 -- the answers that finish an operation, the latest first
-unfoldable pub finals : List Call → List Answer
+unfoldable pub finals : List Call → List Delivered
 finals [] = []
 finals (call ∷ calls) = with_answer (act (after small calls) call).called.answer (finals calls)
 
@@ -40,7 +46,7 @@ word_after calls a = read_word (after small calls).memory (record { 0 = a })
 
 -- a row: a run, the answers that it ends with, the latest first, and the word at an address at its end; or words and their two sums
 pub data Row : Type 0 where
-  plays : List Whole → List Answer → ℕ → ℕ → Row
+  plays : List Whole → List Delivered → ℕ → ℕ → Row
   sums : List ℕ → ℕ → ℕ → Row
 
 abbrev pub Holds : Row → Type 0
@@ -56,16 +62,16 @@ store c a v = does c (Asked.Store (record { 0 = a }) v)
 abbrev pub sc : ℕ → ℕ → ℕ → Whole
 sc c a v = does c (Asked.Sc (record { 0 = a }) v)
 
-abbrev linked : Answer
+abbrev linked : Delivered
 linked = Answered.Ll 0
 
-abbrev stored : Answer
+abbrev stored : Delivered
 stored = Answered.Store
 
-abbrev success : Answer
+abbrev success : Delivered
 success = Answered.Sc 0
 
-abbrev failure : Answer
+abbrev failure : Delivered
 failure = Answered.Sc 1
 
 abbrev pub rows : List Row
@@ -104,5 +110,5 @@ SmallRuns = Each rows
 -- The hypotheses of demands 2 and 3 can be met: `small` is fresh, P1's run has an sc that succeeds, and P2's one that fails.
 pub record Met : Type 0 where
   pub fresh : Fresh small
-  pub success : (r : Record) × (earlier : History) × At small (played (ll 0 8 ∷ sc 0 8 5 ∷ []) []) r earlier × (r.kind ≡ 4)
-  pub failure : (r : Record) × (earlier : History) × At small (played (ll 0 8 ∷ store 1 8 7 ∷ store 1 8 0 ∷ sc 0 8 5 ∷ []) []) r earlier × (r.kind ≡ 5)
+  pub success : (r : Record) × (earlier : History) × At small (played (ll 0 8 ∷ sc 0 8 5 ∷ []) []) r earlier × (r.kind ≡ kind_number Success)
+  pub failure : (r : Record) × (earlier : History) × At small (played (ll 0 8 ∷ store 1 8 7 ∷ store 1 8 0 ∷ sc 0 8 5 ∷ []) []) r earlier × (r.kind ≡ kind_number Failure)

@@ -110,7 +110,7 @@ answer_at Store passed read = Answered.Store
 answer_at Sc passed read = Answered.Sc (if passed then 0 else 1)
 
 -- the shape that its number has
-shape_at : (l : Locked) → shape_of (code_of l.operation) ≡ Some (Locks l.locking)
+pub shape_at : (l : Locked) → shape_of (code_of l.operation) ≡ Some (Locks l.locking)
 shape_at l = shape_given l.operation ∙ ap (λ (s : Shape). Some s) l.shaped
 
 module _ (me : ℕ) (k : Link) (owner holder word : ℕ) where

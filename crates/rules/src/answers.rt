@@ -1,5 +1,9 @@
 // What the machine answers and what it hands out.
+ghost use Rattle.std.specs.Prelude.{◌≡◌};
+ghost use Rattle.rules.specs.Calls.{poke_record};
+
 use crate::entry::GuestAddress;
+use crate::kinds::Kind;
 
 // The answers of every call that is not refused, named as the script program writes them.
 #[derive(Clone, Copy, PartialEq, Eq, Debug)]
@@ -31,4 +35,21 @@ pub struct Record {
     pub kind: u8,
     pub address: GuestAddress,
     pub value: u32,
+}
+
+impl Record {
+    // The core of a poke's record: the bench.
+    pub const BENCH: u8 = 255;
+
+    // The record of a poke.
+    pub fn of_poke(address: GuestAddress, value: u32) -> Record
+        ensures { result ≡ poke_record address value }
+    {
+        Record {
+            core: Record::BENCH,
+            kind: Kind::Poke.number(),
+            address,
+            value,
+        }
+    }
 }
