@@ -310,8 +310,8 @@ fn archive_rows() -> Vec<Row> {
 }
 
 /// A script of a long run, in phases like the machine's.
-fn script_of(phases: usize) -> (Vec<u8>, usize) {
-    let run = phased(8, 16_384, 1_024, phases);
+fn script_of(cores: usize, phases: usize) -> (Vec<u8>, usize) {
+    let run = phased(cores, 16_384, 1_024, phases);
     let mut text = format!("new {} {} {}\n", run.count, run.bytes, run.entries).into_bytes();
     let mut lines = 1;
     for (gives, steps) in &run.phases {
@@ -340,9 +340,9 @@ struct ScriptFile {
 }
 
 impl ScriptFile {
-    fn write(phases: usize) -> io::Result<ScriptFile> {
-        let (text, lines) = script_of(phases);
-        let path = std::env::temp_dir().join(format!("second-bench-{}-{phases}", std::process::id()));
+    fn write(cores: usize, phases: usize) -> io::Result<ScriptFile> {
+        let (text, lines) = script_of(cores, phases);
+        let path = std::env::temp_dir().join(format!("second-bench-{}-{cores}-{phases}", std::process::id()));
         File::create(&path)?.write_all(&text)?;
         Ok(ScriptFile { path, lines })
     }
@@ -370,7 +370,7 @@ impl Drop for ScriptFile {
 
 fn script_row(program: &Path) -> io::Result<Row> {
     let own = std::env::current_exe()?;
-    let file = ScriptFile::write(40_000)?;
+    let file = ScriptFile::write(8, 40_000)?;
     let mut row = Row::new("ns per script line");
     for _ in 0..PROGRAM_ROUNDS {
         least(&mut row.ours, file.time(&own, &["script"])?);
@@ -417,8 +417,10 @@ pub fn growth(program: &Path) -> io::Result<()> {
     }
     println!("{:<34} {:>9} {:>9}", "ns per script line", "second", "proved");
     let own = std::env::current_exe()?;
-    for phases in [1_000, 10_000, 100_000] {
-        let file = ScriptFile::write(phases)?;
+    // By cores, with about as many lines each; and by lines.
+    let cores = [(1, 320_000), (2, 160_000), (4, 80_000), (8, 40_000)];
+    for (cores, phases) in cores.into_iter().chain([1_000, 10_000, 100_000].map(|phases| (8, phases))) {
+        let file = ScriptFile::write(cores, phases)?;
         let (mut ours, mut theirs) = (f64::INFINITY, f64::INFINITY);
         for _ in 0..PROGRAM_ROUNDS {
             least(&mut ours, file.time(&own, &["script"])?);
@@ -426,7 +428,7 @@ pub fn growth(program: &Path) -> io::Result<()> {
                 least(&mut theirs, file.time(program, &[])?);
             }
         }
-        print_growth(&format!("{} lines", file.lines), ours, &mut theirs);
+        print_growth(&format!("{cores} cores, {} lines", file.lines), ours, &mut theirs);
     }
     Ok(())
 }
