@@ -1,5 +1,9 @@
 pub mod Bytes
 pub mod Entries
 pub mod Looking
-pub mod Determined
+pub mod Refusing
+pub mod Giving
+pub mod Stepping
+pub mod PokingShowing
 pub mod Knowing
+pub mod Determined

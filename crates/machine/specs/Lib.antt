@@ -1,6 +1,6 @@
+pub mod Sizes
 pub mod Looked
-pub mod Whole
-pub mod Place
-pub mod Reach
-pub mod Acted
+pub mod Give
+pub mod Step
+pub mod PokeShow
 pub mod Known

@@ -4,16 +4,17 @@
 // A public call takes any input. Its contract is an equation to a definition of the crate `rules`,
 // specs/Calls.antt, which says what it answers, hands out and leaves, a refusal too. The specs/ of this
 // crate have no rule, only what its contracts need beside the rules.
+mod address;
 mod calls;
-mod known;
-mod place;
 mod ranges;
 mod sizes;
 mod word;
 
-pub use calls::{poke, show, start};
-pub use known::{give_core, poke_word, show_word, step_core};
-pub use place::{Stepped, give, give_in_place, step, step_in_place};
+pub use calls::give::{give, give_core, give_in_place};
+pub use calls::poke::{poke, poke_word};
+pub use calls::show::{show, show_word};
+pub use calls::start::start;
+pub use calls::step::{Stepped, step, step_core, step_in_place};
 pub use rules::{
     Answer, Called, Core, GuestAddress, Machine, MicroStep, Operation, Record, Refusal, number_of,
 };

@@ -1,35 +1,10 @@
-// The ranges of sizes and of the state, and the damage of a table's entry.
+// The look at a whole state: whether it is in its ranges.
 ghost use Rattle.std.specs.Prelude.{◌≡◌, ◌%◌, ◌<◌, ◌≤◌};
-ghost use Rattle.rules.specs.Sizes.{cores_fit, bytes_fit, entries_fit, tables_fit};
-ghost use Rattle.rules.specs.Ranges.{sizes_fit, in_ranges, damaged};
+ghost use Rattle.rules.specs.Ranges.{sizes_fit, in_ranges};
 ghost use Rattle.machine.specs.Looked.{operation_place, can_be_at, spare, spare_are0, word_at, words_for, room_of, core_looks_right, fits_at};
 
+use crate::sizes::{bytes_fit, cores_fit, entries_fit};
 use rules::{Core, Locking, Machine, Shape};
-
-pub(crate) fn cores_fit(count: usize) -> bool
-    ensures { result ≡ cores_fit count }
-{
-    1 <= count && count <= 8
-}
-
-pub(crate) fn bytes_fit(bytes: usize) -> bool
-    ensures { result ≡ bytes_fit bytes }
-{
-    4 <= bytes && bytes <= 65536 && bytes % 4 == 0
-}
-
-#[tactic(auto, using(crate::proofs::Entries::few_entries, crate::proofs::Entries::many_entries))]
-pub(crate) fn entries_fit(e: usize) -> bool
-    ensures { result ≡ entries_fit e }
-{
-    e <= 4096 && e.is_power_of_two()
-}
-
-pub(crate) fn tables_fit(owners: usize, holders: usize) -> bool
-    ensures { result ≡ tables_fit owners holders }
-{
-    entries_fit(owners) && holders == owners
-}
 
 fn sizes_fit(m: &Machine) -> bool
     ensures { result ≡ sizes_fit m.now }
@@ -153,17 +128,4 @@ pub(crate) fn in_ranges(m: &Machine) -> bool
         }
     }
     true
-}
-
-#[tactic(auto, unfolding(rules::specs::Ranges::damaged))]
-pub(crate) fn damaged(count: usize, me: u8, c: Core, owner: u8, holder: u8) -> bool
-    requires { me < 8 }
-    ensures { result ≡ damaged count me c owner holder }
-{
-    let mark = me + 1;
-    let owner_beyond = count < usize::from(owner);
-    let holder_beyond = count < usize::from(holder);
-    let lost = 2 <= c.next && holder != mark;
-    let early = c.next == 1 && holder == mark;
-    Shape::of(c.operation) != Some(Shape::Load) && (owner_beyond || holder_beyond || lost || early)
 }

@@ -1,4 +1,4 @@
--- The sizes of a whole machine.
+-- The sizes of a machine.
 use Rattle.machine.specs.declared.sizes.Sizes.{Sizes}
 use Rattle.rules.specs.declared.state.Machine.{Machine}
 

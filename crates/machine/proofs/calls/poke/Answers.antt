@@ -1,8 +1,0 @@
-use Rattle.machine.proofs.Knowing.{poke_put}
-use Rattle.machine.proofs.calls.poke.Goals as goal
-
-pub returns-in-Ok : goal.returns-in-Ok
-returns-in-Ok c = let p = poke_put c.args.m (cc) _ _ _ _ _ c.in-Ok.ensures in record { number = p.0; outcome = p.1 }
-
-pub returns-in-Err : goal.returns-in-Err
-returns-in-Err c = let p = poke_put c.args.m (cc) _ _ _ _ _ c.in-Err.ensures in rw c.refused-in-Err.ensures (record { number = p.0; outcome = p.1 })

@@ -1,8 +1,0 @@
-use Rattle.machine.proofs.Knowing.{step_put}
-use Rattle.machine.proofs.place.step_in_place.Goals as goal
-
-pub returns-in-Ok : goal.returns-in-Ok
-returns-in-Ok c = let p = step_put c.args.machine.now (cc) _ _ _ _ _ _ _ _ (rw c.of-sizes.ensures at c.in-Ok.ensures) in record { number = p.0; outcome = p.1 }
-
-pub returns-in-Err : goal.returns-in-Err
-returns-in-Err c = let p = step_put c.args.machine.now (cc) _ _ _ _ _ _ _ _ (rw c.of-sizes.ensures at c.in-Err.ensures) in record { number = rw c.refused-in-Err.ensures p.0; outcome = rw c.refused-in-Err.ensures p.1 }
