@@ -30,9 +30,12 @@ use Rattle.rules.specs.declared.cores.MicroStep.{MicroStep}
 use Rattle.rules.specs.declared.state.Machine.{Machine}
 use Rattle.rules.specs.declared.state.Called.{Called}
 use Rattle.rules.proofs.Lawful.{range_laws, refusal_laws}
-use Rattle.machine.specs.Whole.{sizes_of}
-use Rattle.machine.specs.declared.place.Stepped.{Stepped}
-use Rattle.machine.specs.Known.{picked, give_core_of, step_core_of, poke_word_of, show_word_of, granted_at, called_by, poked_at, shown_at, AsTheRules}
+use Rattle.machine.specs.Sizes.{sizes_of}
+use Rattle.machine.specs.declared.calls.step.Stepped.{Stepped}
+use Rattle.machine.specs.Give.{give_core_of, called_by_give}
+use Rattle.machine.specs.Step.{step_core_of, called_by_step}
+use Rattle.machine.specs.PokeShow.{poke_word_of, called_by_poke, show_word_of, called_by_show}
+use Rattle.machine.specs.Known.{picked, AsTheRules}
 use Rattle.machine.proofs.Knowing.{known_calls}
 use Rattle.commands.specs.Effect.{After, after, beside, running, refused_ran, ran_of, started_ran, new_fits, after_start, new_of, usual_entries, once_begun, give_line, after_step, step_line, after_poke, poke_line, show_line, run_command}
 use Rattle.commands.specs.Turns.{set_up, one_core, did, if_done, DidOutcome, did_outcome, give_turn, step_turn, poke_turn, show_turn, act_on, ran_by, put_by, on_one_core, turn_of, ran_in, run_in_place, Sound, Done, LinesAreDone}
@@ -49,14 +52,14 @@ module _ (m : Machine) (ranges : in_ranges m ≡ true) (memory owners holders : 
   own_core : (i : ℕ) → with_core m (i % 8) (picked m i) ≡ m
   own_core i = λ j. record { cores = set-get_or m.cores (i % 8) idle j; count = m.count; bytes = m.bytes; entries = m.entries }
 
-  given_ran : (core : ℕ) (r : Result Core Refusal) → ran_by m core (if_done (did Taken None) r) ≡ ran_of (granted_at m core r)
+  given_ran : (core : ℕ) (r : Result Core Refusal) → ran_by m core (if_done (did Taken None) r) ≡ ran_of (called_by_give m core r)
   given_ran core (Ok c) = refl
   given_ran core (Err refusal) = refl
 
   give_line_is : (core : ℕ) (o : Operation) → ran_by m core (give_turn (sizes_of m) (picked m core) core o) ≡ give_line m core o
   give_line_is core o = given_ran core (give_core_of (sizes_of m) (picked m core) core o) ∙ ap ran_of (rules.give_is core o)
 
-  stepped_ran : (core : ℕ) (r : Result MicroStep Refusal) → ran_by m core (if_done (λ t. did t.answer t.made t.core) r) ≡ ran_of (called_by m core r)
+  stepped_ran : (core : ℕ) (r : Result MicroStep Refusal) → ran_by m core (if_done (λ t. did t.answer t.made t.core) r) ≡ ran_of (called_by_step m core r)
   stepped_ran core (Ok t) = refl
   stepped_ran core (Err refusal) = refl
 
@@ -66,7 +69,7 @@ module _ (m : Machine) (ranges : in_ranges m ≡ true) (memory owners holders : 
       ap (λ (r : Ran). after r (beside m.bytes a.memory memory) (beside m.entries a.owners owners) (beside m.entries a.holders holders)) (stepped_ran core a.step)
       ∙ ap (after_step m memory owners holders) (rules.step_is core (take m.bytes memory) (take m.entries owners) (take m.entries holders))
 
-  poked_ran : (r : Result Record Refusal) → ran_by m 0 (if_done (λ made. did Poked (Some made) (picked m 0)) r) ≡ ran_of (poked_at m r)
+  poked_ran : (r : Result Record Refusal) → ran_by m 0 (if_done (λ made. did Poked (Some made) (picked m 0)) r) ≡ ran_of (called_by_poke m r)
   poked_ran (Ok made) = λ i. record { answer = Ok Poked; made = Some made; session = running (own_core 0 i) }
   poked_ran (Err refusal) = refl
 
@@ -79,7 +82,7 @@ module _ (m : Machine) (ranges : in_ranges m ≡ true) (memory owners holders : 
       ap (λ (r : Ran). after r (beside m.bytes p.memory memory) owners holders) (poked_ran p.made)
       ∙ ap (after_poke m memory owners holders) (rules.poke_is (take m.bytes memory) a v)
 
-  shown_ran : (r : Result ℕ Refusal) → ran_by m 0 (if_done (λ word. did (Word word) None (picked m 0)) r) ≡ ran_of (shown_at m r)
+  shown_ran : (r : Result ℕ Refusal) → ran_by m 0 (if_done (λ word. did (Word word) None (picked m 0)) r) ≡ ran_of (called_by_show m r)
   shown_ran (Ok word) = λ i. record { answer = Ok (Word word); made = None; session = running (own_core 0 i) }
   shown_ran (Err refusal) = refl
 

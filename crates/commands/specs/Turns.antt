@@ -11,11 +11,13 @@ use Rattle.rules.specs.declared.refusals.Refusal.{Refusal}
 use Rattle.rules.specs.declared.refusals.Refusal.TheVariants.{NotUnderstood, NoMachine}
 use Rattle.rules.specs.declared.cores.Core.{Core}
 use Rattle.rules.specs.declared.state.Machine.{Machine}
-use Rattle.machine.specs.Whole.{sizes_of}
-use Rattle.machine.specs.Acted.{Acted}
-use Rattle.machine.specs.Known.{picked, give_core_of, step_core_of, PokedOutcome, poke_word_of, show_word_of}
+use Rattle.machine.specs.Sizes.{sizes_of}
+use Rattle.machine.specs.Give.{give_core_of}
+use Rattle.machine.specs.Step.{StepCoreOutcome, step_core_of}
+use Rattle.machine.specs.PokeShow.{PokeWordOutcome, poke_word_of, show_word_of}
+use Rattle.machine.specs.Known.{picked}
 use Rattle.machine.specs.declared.sizes.Sizes.{Sizes}
-use Rattle.machine.specs.declared.place.Stepped.{Stepped}
+use Rattle.machine.specs.declared.calls.step.Stepped.{Stepped}
 use Rattle.commands.specs.Effect.{After, after, running, refused_ran, new_of, usual_entries, beside, run_command}
 use Rattle.commands.specs.declared.grammar.Command.{Command}
 use Rattle.commands.specs.declared.grammar.Command.TheVariants.{New, Give, Step, Poke, Show}
@@ -64,7 +66,7 @@ did_outcome did memory owners holders = record { did = did; memory = memory; own
 abbrev pub give_turn : Sizes → Core → ℕ → Operation → Result Did Refusal
 give_turn s c core o = if_done (did Taken None) (give_core_of s c core o)
 
-abbrev pub after_core : Sizes → List ℕ → List ℕ → List ℕ → Acted → DidOutcome
+abbrev pub after_core : Sizes → List ℕ → List ℕ → List ℕ → StepCoreOutcome → DidOutcome
 after_core s memory owners holders a =
     did_outcome (if_done (λ t. did t.answer t.made t.core) a.step)
     (beside s.bytes a.memory memory)
@@ -80,7 +82,7 @@ pub record PokeTurn : Type 0 where
   pub did : Result Did Refusal
   pub memory : List ℕ
 
-abbrev pub after_word : ℕ → Core → List ℕ → PokedOutcome → PokeTurn
+abbrev pub after_word : ℕ → Core → List ℕ → PokeWordOutcome → PokeTurn
 after_word bytes c memory p = record { did = if_done (λ made. did Poked (Some made) c) p.made; memory = beside bytes p.memory memory }
 
 abbrev pub poke_turn : ℕ → Core → List ℕ → GuestAddress → ℕ → PokeTurn

@@ -5,7 +5,7 @@ use Rattle.rules.specs.declared.answers.Answer.{Answer}
 use Rattle.rules.specs.declared.answers.Answer.TheVariants.{Ready}
 use Rattle.rules.specs.declared.answers.Record.{Record}
 use Rattle.rules.specs.declared.refusals.Refusal.{Refusal}
-use Rattle.machine.specs.declared.place.Stepped.{Stepped}
+use Rattle.machine.specs.declared.calls.step.Stepped.{Stepped}
 use Rattle.commands.specs.Effect.{After, after}
 use Rattle.commands.specs.Turns.{ran_in}
 use Rattle.commands.specs.Texts.{answer_put, answer_end}
