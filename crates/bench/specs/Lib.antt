@@ -1,5 +1,5 @@
 pub mod Packed
-pub mod Left
+pub mod CallOutcome
 pub mod Machines
 pub mod Archives
 pub mod Laws

@@ -16,8 +16,8 @@ use Rattle.archive.specs.declared.answers.ArchiveRefusal.{ArchiveRefusal}
 use Rattle.archive.specs.declared.answers.ArchiveRefusal.TheVariants as archive
 
 -- bits 0..7 the number, 8..15 which answer it is, 32..63 the value: of an answer that is no refusal, whose number is 0
-abbrev pub done : ℕ → ℕ → ℕ
-done word value = 256 * word + 4294967296 * value
+abbrev pub word_and_value : ℕ → ℕ → ℕ
+word_and_value word value = 256 * word + 4294967296 * value
 
 -- .. and of a refusal: its number, and beside it the index of the block that decided, in 32 bits
 abbrev pub refused_at : ℕ → ℕ → ℕ
@@ -27,31 +27,35 @@ abbrev pub packed_refusal : ArchiveRefusal → ℕ
 packed_refusal archive.Length = refusal_number BlockLength
 packed_refusal (archive.Block index refusal) = refused_at (refusal_number refusal) index
 
+-- what an operation delivers: its word is the operation's number, counted on from the four words before
+abbrev pub packed_delivered : ℕ → ℕ → ℕ
+packed_delivered operation value = word_and_value (4 + operation) value
+
 abbrev pub packed_answer : Answer → ℕ
-packed_answer answer.Ready = done 1 0
-packed_answer answer.Taken = done 2 0
-packed_answer answer.Moved = done 3 0
-packed_answer answer.Waits = done 4 0
-packed_answer (answer.Load v) = done 5 v
-packed_answer (answer.Ll v) = done 6 v
-packed_answer answer.Store = done 7 0
-packed_answer (answer.Sc v) = done 8 v
-packed_answer answer.Poked = done 9 0
-packed_answer (answer.Word v) = done 10 v
+packed_answer answer.Ready = word_and_value 1 0
+packed_answer answer.Taken = word_and_value 2 0
+packed_answer answer.Moved = word_and_value 3 0
+packed_answer answer.Waits = word_and_value 4 0
+packed_answer (answer.Load v) = packed_delivered 1 v
+packed_answer (answer.Ll v) = packed_delivered 2 v
+packed_answer answer.Store = packed_delivered 3 0
+packed_answer (answer.Sc v) = packed_delivered 4 v
+packed_answer answer.Poked = word_and_value 9 0
+packed_answer (answer.Word v) = word_and_value 10 v
 
 abbrev pub packed_put : Put → ℕ
-packed_put put.Nothing = done 11 0
-packed_put put.Block = done 12 0
+packed_put put.Nothing = word_and_value 11 0
+packed_put put.Block = word_and_value 12 0
 
 abbrev pub packed_good : Unit {0} → ℕ
-packed_good good = done 13 0
+packed_good good = word_and_value 13 0
 
 abbrev pub packed_found : Option Numbered → ℕ
-packed_found None = done 14 0
-packed_found (Some found) = done 15 0
+packed_found None = word_and_value 14 0
+packed_found (Some found) = word_and_value 15 0
 
 abbrev pub packed_count : ℕ → ℕ
-packed_count records = done 16 (records % 4294967296)
+packed_count records = word_and_value 16 (records % 4294967296)
 
 -- a call's answer or its refusal, each packed in its own way
 abbrev pub packed_by : {A E : Type 0} → (A → ℕ) → (E → ℕ) → Result A E → ℕ

@@ -1,9 +1,9 @@
 // The calls as bench/malthobre.h declares them; the crate `bench_c` exports them to C. The lent buffers are separate
 // parameters, a number is an answer and 16 bytes are a record for the C interface.
 ghost use Rattle.std.specs.Prelude.{◌≡◌};
-ghost use Rattle.bench.specs.Left.{left};
-ghost use Rattle.bench.specs.Machines.{start_left, step_left, poke_left, start_call, give_call, step_call, poke_call, show_call};
-ghost use Rattle.bench.specs.Archives.{write_left, new_call, add_call, close_call, check_call, record_call, whole_call, sought_call};
+ghost use Rattle.bench.specs.CallOutcome.{call_outcome};
+ghost use Rattle.bench.specs.Machines.{start_call_outcome, step_call_outcome, poke_call_outcome, start_call, give_call, step_call, poke_call, show_call};
+ghost use Rattle.bench.specs.Archives.{write_call_outcome, new_call, add_call, close_call, check_call, record_call, whole_call, sought_call};
 
 use crate::packed::{Packed, asked_of, handed_bytes, read_bytes};
 use archive::{Put, Writer, decode_record};
@@ -16,7 +16,7 @@ pub fn malthobre_start(
     owners: &mut [u8],
     holders: &mut [u8],
 ) -> u64
-    ensures { start_left result m.new memory.new owners.new holders.new ≡ start_call count memory.old owners.old holders.old }
+    ensures { start_call_outcome result m.new memory.new owners.new holders.new ≡ start_call count memory.old owners.old holders.old }
 {
     let called = machine::start(count, memory, owners, holders);
     *m = called.machine;
@@ -24,7 +24,7 @@ pub fn malthobre_start(
 }
 
 pub fn malthobre_give(m: &mut Machine, core: usize, operation: u8, address: u32, value: u32) -> u64
-    ensures { left result m.new ≡ give_call m.old core operation address value }
+    ensures { call_outcome result m.new ≡ give_call m.old core operation address value }
 {
     match asked_of(operation, address, value) {
         Some(asked) => machine::give_in_place(m, core, asked).packed(),
@@ -40,7 +40,7 @@ pub fn malthobre_step(
     core: usize,
     made: &mut [u8; 16],
 ) -> u64
-    ensures { step_left result m.new memory.new owners.new holders.new made.new ≡ step_call m.old memory.old owners.old holders.old core }
+    ensures { step_call_outcome result m.new memory.new owners.new holders.new made.new ≡ step_call m.old memory.old owners.old holders.old core }
 {
     let stepped = machine::step_in_place(m, memory, owners, holders, core);
     *made = handed_bytes(stepped.made);
@@ -54,7 +54,7 @@ pub fn malthobre_poke(
     value: u32,
     made: &mut [u8; 16],
 ) -> u64
-    ensures { poke_left result m.new memory.new made.new ≡ poke_call m.old memory.old address value }
+    ensures { poke_call_outcome result m.new memory.new made.new ≡ poke_call m.old memory.old address value }
 {
     let called = machine::poke(*m, memory, GuestAddress(address), value);
     *m = called.machine;
@@ -63,7 +63,7 @@ pub fn malthobre_poke(
 }
 
 pub fn malthobre_show(m: &mut Machine, memory: &[u8], address: u32) -> u64
-    ensures { left result m.new ≡ show_call m.old memory.now address }
+    ensures { call_outcome result m.new ≡ show_call m.old memory.now address }
 {
     let called = machine::show(*m, memory, GuestAddress(address));
     *m = called.machine;
@@ -71,14 +71,14 @@ pub fn malthobre_show(m: &mut Machine, memory: &[u8], address: u32) -> u64
 }
 
 pub fn malthobre_writer_new(w: &mut Writer) -> u64
-    ensures { left result w.new ≡ new_call }
+    ensures { call_outcome result w.new ≡ new_call }
 {
     *w = Writer::new();
     Put::Nothing.packed()
 }
 
 pub fn malthobre_writer_add(w: &mut Writer, block: &mut [u8], made: &[u8; 16]) -> u64
-    ensures { write_left result w.new block.new ≡ add_call w.old block.old made.now }
+    ensures { write_call_outcome result w.new block.new ≡ add_call w.old block.old made.now }
 {
     let written = w.add(block, decode_record(*made));
     *w = written.writer;
@@ -86,29 +86,29 @@ pub fn malthobre_writer_add(w: &mut Writer, block: &mut [u8], made: &[u8; 16]) -
 }
 
 pub fn malthobre_writer_close(w: &mut Writer, block: &mut [u8]) -> u64
-    ensures { write_left result w.new block.new ≡ close_call w.old block.old }
+    ensures { write_call_outcome result w.new block.new ≡ close_call w.old block.old }
 {
     let written = w.close(block);
     *w = written.writer;
     written.answer.packed()
 }
 
-pub fn malthobre_block_check(block: &[u8], expected: u32, short: bool) -> u64
-    ensures { result ≡ check_call block.now expected short }
+pub fn malthobre_block_check(block: &[u8], expected: u32, after_short: bool) -> u64
+    ensures { result ≡ check_call block.now expected after_short }
 {
-    archive::check_block(block, expected, short).packed()
+    archive::check_block(block, expected, after_short).packed()
 }
 
 pub fn malthobre_block_record(
     block: &[u8],
     expected: u32,
-    short: bool,
+    after_short: bool,
     place: usize,
     made: &mut [u8; 16],
 ) -> u64
-    ensures { left result made.new ≡ record_call block.now expected short place }
+    ensures { call_outcome result made.new ≡ record_call block.now expected after_short place }
 {
-    let found = archive::record_at(block, expected, short, place);
+    let found = archive::record_at(block, expected, after_short, place);
     *made = read_bytes(&found);
     found.packed()
 }
@@ -120,7 +120,7 @@ pub fn malthobre_archive_check(bytes: &[u8]) -> u64
 }
 
 pub fn malthobre_archive_record(bytes: &[u8], number: u32, made: &mut [u8; 16]) -> u64
-    ensures { left result made.new ≡ sought_call bytes.now number }
+    ensures { call_outcome result made.new ≡ sought_call bytes.now number }
 {
     let found = archive::record_of_number(bytes, number);
     *made = read_bytes(&found);

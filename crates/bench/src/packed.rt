@@ -1,7 +1,21 @@
 // What crosses to C: an answer as one number, a record as its 16 bytes, an operation as its number.
-ghost use Rattle.std.specs.Prelude.{◌≡◌, ◌%◌, ℕ};
+ghost use Rattle.std.specs.Prelude.{◌≡◌, ◌≤◌, ◌%◌, ℕ};
 ghost use Rattle.rules.specs.Refusals.{refusal_number};
-ghost use Rattle.bench.specs.Packed.{done, refused_at, packed_by, packed_answer, packed_put, packed_good, packed_found, packed_count, packed_refusal, handed_bytes, read_bytes, asked_of};
+ghost use Rattle.bench.specs.Packed.{
+  word_and_value,
+  refused_at,
+  packed_by,
+  packed_delivered,
+  packed_answer,
+  packed_put,
+  packed_good,
+  packed_found,
+  packed_count,
+  packed_refusal,
+  handed_bytes,
+  read_bytes,
+  asked_of,
+};
 
 use archive::{ArchiveRefusal, Numbered, Put, encode_record};
 use machine::{Answer, GuestAddress, Operation, Record, Refusal};
@@ -15,8 +29,8 @@ fn low(x: usize) -> u32
 
 // The word says which answer it is, and the value stands beside it. The words are numbers for the C interface,
 // bench/malthobre.h.
-fn done(word: u8, value: u32) -> u64
-    ensures { result ≡ done word value }
+fn word_and_value(word: u8, value: u32) -> u64
+    ensures { result ≡ word_and_value word value }
 {
     256 * u64::from(word) + 4294967296 * u64::from(value)
 }
@@ -66,21 +80,29 @@ impl Packed for ArchiveRefusal {
     }
 }
 
+// What an operation delivers, by the operation's number.
+fn delivered(operation: u8, value: u32) -> u64
+    requires { operation ≤ 251 }
+    ensures { result ≡ packed_delivered operation value }
+{
+    word_and_value(4 + operation, value)
+}
+
 impl Packed for Answer {
     ghost packs = { packed_answer };
 
     fn packed(self) -> u64 {
         match self {
-            Answer::Ready => done(1, 0),
-            Answer::Taken => done(2, 0),
-            Answer::Moved => done(3, 0),
-            Answer::Waits => done(4, 0),
-            Answer::Load(v) => done(5, v),
-            Answer::Ll(v) => done(6, v),
-            Answer::Store => done(7, 0),
-            Answer::Sc(v) => done(8, v),
-            Answer::Poked => done(9, 0),
-            Answer::Word(v) => done(10, v),
+            Answer::Ready => word_and_value(1, 0),
+            Answer::Taken => word_and_value(2, 0),
+            Answer::Moved => word_and_value(3, 0),
+            Answer::Waits => word_and_value(4, 0),
+            Answer::Load(v) => delivered(1, v),
+            Answer::Ll(v) => delivered(2, v),
+            Answer::Store => delivered(3, 0),
+            Answer::Sc(v) => delivered(4, v),
+            Answer::Poked => word_and_value(9, 0),
+            Answer::Word(v) => word_and_value(10, v),
         }
     }
 }
@@ -90,8 +112,8 @@ impl Packed for Put {
 
     fn packed(self) -> u64 {
         match self {
-            Put::Nothing => done(11, 0),
-            Put::Block => done(12, 0),
+            Put::Nothing => word_and_value(11, 0),
+            Put::Block => word_and_value(12, 0),
         }
     }
 }
@@ -101,7 +123,7 @@ impl Packed for () {
     ghost packs = { packed_good };
 
     fn packed(self) -> u64 {
-        done(13, 0)
+        word_and_value(13, 0)
     }
 }
 
@@ -111,8 +133,8 @@ impl Packed for Option<Numbered> {
 
     fn packed(self) -> u64 {
         match self {
-            None => done(14, 0),
-            Some(_) => done(15, 0),
+            None => word_and_value(14, 0),
+            Some(_) => word_and_value(15, 0),
         }
     }
 }
@@ -122,7 +144,7 @@ impl Packed for usize {
     ghost packs = { packed_count };
 
     fn packed(self) -> u64 {
-        done(16, low(self))
+        word_and_value(16, low(self))
     }
 }
 
