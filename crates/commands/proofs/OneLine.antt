@@ -12,8 +12,8 @@ use lib.ListN.{length, drop}
 use lib.Dec.{eqb, ltb, leb}
 use borrow.Author.Tests.{eqb-true, eqb-false, lt-ltb, not-true}
 use Rattle.rules.specs.declared.entry.GuestAddress.{GuestAddress}
-use Rattle.rules.specs.declared.answers.Operation.{Operation}
-use Rattle.rules.specs.declared.answers.Operation.TheVariants.{Load, Ll, Store, Sc}
+use Rattle.rules.specs.declared.operations.Operation.{Operation}
+use Rattle.rules.specs.declared.operations.Operation.TheVariants.{Load, Ll, Store, Sc}
 use Rattle.commands.specs.Bytes.{begins, space, first_field, more_fields, after_field}
 use Rattle.commands.specs.Decimal.{largest, is_digit, digit_of, all_digits, value_from, number_from, number_in, decimal}
 use Rattle.commands.specs.Grammar.{new_word, give_word, step_word, poke_word, show_word, load_word, ll_word, store_word, sc_word, third_number, second_number, numbers_of, step_command, address_of, address_and_value_of, with_address, with_value, new_command, operation_of, give_command, too_long, command_of, operation_text, line_of}

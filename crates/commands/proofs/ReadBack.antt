@@ -9,8 +9,8 @@ use native.Mathlib.Omega.{arith}
 use lib.ListN.{length, length-append}
 use lib.Dec.{ltb}
 use borrow.Author.Tests.{le-ltb}
-use Rattle.rules.specs.declared.answers.Operation.{Operation}
-use Rattle.rules.specs.declared.answers.Operation.TheVariants.{Load, Ll, Store, Sc}
+use Rattle.rules.specs.declared.operations.Operation.{Operation}
+use Rattle.rules.specs.declared.operations.Operation.TheVariants.{Load, Ll, Store, Sc}
 use Rattle.commands.specs.Bytes.{begins, space, first_field, more_fields, after_field}
 use Rattle.commands.specs.Decimal.{number_in, decimal}
 use Rattle.commands.specs.Grammar.{new_word, give_word, step_word, poke_word, show_word, load_word, ll_word, store_word, sc_word, third_number, second_number, numbers_of, operation_of, give_command, command_of, operation_text, line_of}

@@ -19,7 +19,7 @@ use Rattle.rules.specs.Life.{idle}
 use Rattle.rules.specs.Ranges.{in_ranges}
 use Rattle.rules.specs.Calls.{refused, answered, poke_outcome, poked, with_core, start_of, give_of, step_of, poke_of, show_of, word_refusal, lent_fits}
 use Rattle.rules.specs.declared.entry.GuestAddress.{GuestAddress}
-use Rattle.rules.specs.declared.answers.Operation.{Operation}
+use Rattle.rules.specs.declared.operations.Operation.{Operation}
 use Rattle.rules.specs.declared.answers.Answer.{Answer}
 use Rattle.rules.specs.declared.answers.Answer.TheVariants.{Taken, Poked, Word}
 use Rattle.rules.specs.declared.answers.Record.{Record}

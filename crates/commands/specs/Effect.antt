@@ -2,7 +2,7 @@
 use Rattle.std.specs.Prelude.{ℕ, Bool, ◌&&◌, Option, Some, None, is_some, unwrap_or, Err, is_ok, List, ◌++◌, length, take, drop, leb, if◌then◌else◌}
 use Rattle.std.specs.Option.{option_map_or}
 use Rattle.rules.specs.Calls.{Outcome, PokeOutcome, start_of, give_of, step_of, poke_of, show_of}
-use Rattle.rules.specs.declared.answers.Operation.{Operation}
+use Rattle.rules.specs.declared.operations.Operation.{Operation}
 use Rattle.rules.specs.declared.refusals.Refusal.{Refusal}
 use Rattle.rules.specs.declared.refusals.Refusal.TheVariants.{LentLengths, NotUnderstood, NoMachine}
 use Rattle.rules.specs.declared.entry.GuestAddress.{GuestAddress}

@@ -1,8 +1,8 @@
 -- Document 01, "Script program": the commands, one a line.
 use Rattle.std.specs.Prelude.{ℕ, ◌-◌, Bool, ◌&&◌, Option, Some, None, option_map, option_and_then, List, [], ◌∷◌, ◌++◌, length, get_or, drop, leb, ltb, eqb, if◌then◌else◌}
 use Rattle.rules.specs.declared.entry.GuestAddress.{GuestAddress}
-use Rattle.rules.specs.declared.answers.Operation.{Operation}
-use Rattle.rules.specs.declared.answers.Operation.TheVariants.{Load, Ll, Store, Sc}
+use Rattle.rules.specs.declared.operations.Operation.{Operation}
+use Rattle.rules.specs.declared.operations.Operation.TheVariants.{Load, Ll, Store, Sc}
 use Rattle.commands.specs.Bytes.{begins, first_field, more_fields, after_field, space}
 use Rattle.commands.specs.Decimal.{is_digit, number_in, decimal}
 use Rattle.commands.specs.declared.grammar.Numbers.{Numbers}

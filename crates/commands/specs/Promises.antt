@@ -7,8 +7,8 @@ use Rattle.rules.specs.declared.answers.Answer.{Answer}
 use Rattle.rules.specs.declared.answers.Answer.TheVariants.{Ready}
 use Rattle.rules.specs.declared.refusals.Refusal.{Refusal}
 use Rattle.rules.specs.declared.refusals.Refusal.TheVariants.{NotUnderstood, NoMachine}
-use Rattle.rules.specs.declared.answers.Operation.{Operation}
-use Rattle.rules.specs.declared.answers.Operation.TheVariants.{Load, Ll, Store, Sc}
+use Rattle.rules.specs.declared.operations.Operation.{Operation}
+use Rattle.rules.specs.declared.operations.Operation.TheVariants.{Load, Ll, Store, Sc}
 use Rattle.commands.specs.Bytes.{first_field, more_fields, after_field}
 use Rattle.commands.specs.Decimal.{decimal}
 use Rattle.commands.specs.Grammar.{step_word, command_of, short_step, line_of}

@@ -4,7 +4,7 @@ use Rattle.std.proofs.Common.{◌≡◌, ℕ, Bool, true, false, leb, Result, re
 use Rattle.rules.specs.Refusals.{number_in}
 use Rattle.rules.specs.Ranges.{in_ranges}
 use Rattle.rules.specs.Calls.{give_refusal, give_of}
-use Rattle.rules.specs.declared.answers.Operation.{Operation}
+use Rattle.rules.specs.declared.operations.Operation.{Operation}
 use Rattle.rules.specs.declared.cores.Core.{Core}
 use Rattle.rules.specs.declared.state.Machine.{Machine}
 use Rattle.rules.specs.declared.state.Called.{Called}

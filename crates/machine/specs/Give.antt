@@ -1,10 +1,10 @@
 -- A give for a caller that knows its machine to be in its ranges and keeps it, which sees the sizes and one core; and a give on the machine where it stands.
 use Rattle.std.specs.Prelude.{◌%◌, ℕ, Result, Ok, Err, None, nat_le, if◌then◌else◌}
-use Rattle.rules.specs.Kinds.{address_of}
+use Rattle.rules.specs.Operations.{address_of}
 use Rattle.rules.specs.Life.{given}
 use Rattle.rules.specs.Refusals.{Tested, unless_refused}
 use Rattle.rules.specs.Calls.{refused, answered, with_core, address_refusal}
-use Rattle.rules.specs.declared.answers.Operation.{Operation}
+use Rattle.rules.specs.declared.operations.Operation.{Operation}
 use Rattle.rules.specs.declared.answers.Answer.{Answer}
 use Rattle.rules.specs.declared.answers.Answer.TheVariants.{Taken}
 use Rattle.rules.specs.declared.refusals.Refusal.{Refusal}

@@ -3,7 +3,7 @@ use Rattle.std.specs.Prelude.{◌≡◌, ℕ, ◌%◌, true, List, Err, ◌≢�
 use Rattle.rules.specs.Ranges.{core_at, in_ranges}
 use Rattle.rules.specs.Calls.{give_of, step_of, poke_of, show_of}
 use Rattle.rules.specs.declared.entry.GuestAddress.{GuestAddress}
-use Rattle.rules.specs.declared.answers.Operation.{Operation}
+use Rattle.rules.specs.declared.operations.Operation.{Operation}
 use Rattle.rules.specs.declared.refusals.Refusal.TheVariants.{OutOfRange}
 use Rattle.rules.specs.declared.cores.Core.{Core}
 use Rattle.rules.specs.declared.state.Machine.{Machine}

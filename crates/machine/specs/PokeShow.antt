@@ -1,9 +1,8 @@
 -- A poke and a show for a caller that knows its machine to be in its ranges and keeps it, which see the number of memory's bytes alone.
 use Rattle.std.specs.Prelude.{ℕ, ◌+◌, not, List, Result, Some, Ok, Err, length, ◌==◌, nat_lt, if◌then◌else◌}
 use Rattle.rules.specs.Word.{read_word, write_word}
-use Rattle.rules.specs.Kinds.{poke_core, poke_kind}
 use Rattle.rules.specs.Refusals.{Tested, no_refusal, unless_refused}
-use Rattle.rules.specs.Calls.{PokeOutcome, poke_outcome, refused, answered, address_refusal}
+use Rattle.rules.specs.Calls.{poke_record, PokeOutcome, poke_outcome, refused, answered, address_refusal}
 use Rattle.rules.specs.declared.entry.GuestAddress.{GuestAddress}
 use Rattle.rules.specs.declared.answers.Answer.TheVariants.{Poked, Word}
 use Rattle.rules.specs.declared.answers.Record.{Record}
@@ -29,7 +28,7 @@ poke_word_outcome made memory = record { made = made; memory = memory }
 unfoldable pub poke_word_of : ℕ → List ℕ → GuestAddress → ℕ → PokeWordOutcome
 poke_word_of bytes memory a value =
     unless_refused (known_word_refusal bytes (length memory) a) (λ r. poke_word_outcome (Err r) memory)
-    (poke_word_outcome (Ok (record { core = poke_core; kind = poke_kind; address = a; value = value })) (write_word memory a value))
+    (poke_word_outcome (Ok (poke_record a value)) (write_word memory a value))
 
 unfoldable pub show_word_of : ℕ → List ℕ → GuestAddress → Result ℕ Refusal
 show_word_of bytes memory a = unless_refused (known_word_refusal bytes (length memory) a) (λ r. Err r) (Ok (read_word memory a))

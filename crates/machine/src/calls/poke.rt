@@ -20,12 +20,7 @@ pub fn poke_word(
 {
     known_word_refusal(bytes, memory.len(), address)?;
     word::write_word(memory, address, value);
-    Ok(Record {
-        core: 255,
-        kind: 6,
-        address,
-        value,
-    })
+    Ok(Record::of_poke(address, value))
 }
 
 #[tactic(auto, unfolding(rules::specs::Calls::poke_of, rules::specs::Calls::word_refusal))]

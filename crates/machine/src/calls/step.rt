@@ -8,7 +8,7 @@ ghost use Rattle.machine.specs.Step.{entry_for, known_step_refusal, step_core_ou
 
 use crate::sizes::Sizes;
 use crate::{ranges, word};
-use rules::{Answer, Called, Core, EntryNumber, Machine, MicroStep, Record, Refusal, entry_of};
+use rules::{Answer, Called, Core, EntryNumber, Machine, MicroStep, Record, Refusal, Shape, entry_of};
 
 // What a step hands back that leaves the machine with its caller.
 #[derive(Clone, Copy, PartialEq, Eq, Debug)]
@@ -40,7 +40,7 @@ fn damaged(count: usize, me: u8, c: Core, owner: u8, holder: u8) -> bool
     let holder_beyond = count < usize::from(holder);
     let lost = 2 <= c.next && holder != mark;
     let early = c.next == 1 && holder == mark;
-    c.operation != 1 && (owner_beyond || holder_beyond || lost || early)
+    Shape::of(c.operation) != Some(Shape::Load) && (owner_beyond || holder_beyond || lost || early)
 }
 
 // The entry is found once, for these tests and for the step.

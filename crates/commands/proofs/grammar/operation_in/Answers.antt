@@ -1,5 +1,5 @@
 use Rattle.std.proofs.Common.{rules, ◌≡◌, option_map, ◌∙◌}
-use Rattle.rules.specs.declared.answers.Operation.TheVariants.{Load, Ll, Store, Sc}
+use Rattle.rules.specs.declared.operations.Operation.TheVariants.{Load, Ll, Store, Sc}
 use Rattle.commands.specs.Grammar.{load_word, ll_word, store_word, sc_word, operation_of}
 use Rattle.commands.proofs.Lines.{tested}
 use Rattle.commands.proofs.grammar.operation_in.Goals as goal
