@@ -2,12 +2,13 @@
 use Rattle.std.specs.Prelude.{ℕ, List, Option, Some, None}
 use Rattle.rules.specs.Calls.{Outcome, PokeOutcome, start_of, give_of, step_of, poke_of, show_of}
 use Rattle.rules.specs.Refusals.{refusal_number}
+use Rattle.rules.specs.Operations.{asked_of}
 use Rattle.rules.specs.declared.operations.Operation.{Operation}
 use Rattle.rules.specs.declared.refusals.Refusal.TheVariants.{NotUnderstood}
 use Rattle.rules.specs.declared.state.Machine.{Machine}
 use Rattle.rules.specs.declared.state.Called.{Called}
 use Rattle.bench.specs.CallOutcome.{CallOutcome, call_outcome}
-use Rattle.bench.specs.Packed.{packed, handed_bytes, asked_of}
+use Rattle.bench.specs.Packed.{packed, handed_bytes}
 
 abbrev pub of_called : Called → CallOutcome Machine
 of_called c = call_outcome (packed c.answer) c.machine
@@ -57,7 +58,7 @@ give_asked m core None = call_outcome (refusal_number NotUnderstood) m
 give_asked m core (Some o) = of_called (give_of m core o)
 
 abbrev pub give_call : Machine → ℕ → ℕ → ℕ → ℕ → CallOutcome Machine
-give_call m core code a value = give_asked m core (asked_of code a value)
+give_call m core code a value = give_asked m core (asked_of code (record { 0 = a }) value)
 
 abbrev pub step_call : Machine → List ℕ → List ℕ → List ℕ → ℕ → StepCallOutcome
 step_call m memory owners holders core = of_step (step_of m memory owners holders core)

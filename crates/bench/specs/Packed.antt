@@ -3,8 +3,8 @@ use Rattle.std.specs.Prelude.{ℕ, ◌+◌, ◌*◌, ◌%◌, Option, Some, None
 use Rattle.rules.specs.Refusals.{refusal_number}
 use Rattle.rules.specs.declared.answers.Answer.{Answer}
 use Rattle.rules.specs.declared.answers.Answer.TheVariants as answer
-use Rattle.rules.specs.declared.operations.Operation.{Operation}
-use Rattle.rules.specs.declared.operations.Operation.TheVariants as operation
+use Rattle.rules.specs.declared.answers.Delivered.{Delivered}
+use Rattle.rules.specs.declared.answers.Delivered.TheVariants as delivered
 use Rattle.rules.specs.declared.answers.Record.{Record}
 use Rattle.rules.specs.declared.refusals.Refusal.{Refusal}
 use Rattle.rules.specs.declared.refusals.Refusal.TheVariants.{BlockLength}
@@ -27,19 +27,19 @@ abbrev pub packed_refusal : ArchiveRefusal → ℕ
 packed_refusal archive.Length = refusal_number BlockLength
 packed_refusal (archive.Block index refusal) = refused_at (refusal_number refusal) index
 
--- what an operation delivers: its word is the operation's number, counted on from the four words before
-abbrev pub packed_delivered : ℕ → ℕ → ℕ
-packed_delivered operation value = word_and_value (4 + operation) value
+-- what a finished operation answers
+abbrev pub packed_delivered : Delivered → ℕ
+packed_delivered (delivered.Load v) = word_and_value 5 v
+packed_delivered (delivered.Ll v) = word_and_value 6 v
+packed_delivered delivered.Store = word_and_value 7 0
+packed_delivered (delivered.Sc v) = word_and_value 8 v
 
 abbrev pub packed_answer : Answer → ℕ
 packed_answer answer.Ready = word_and_value 1 0
 packed_answer answer.Taken = word_and_value 2 0
 packed_answer answer.Moved = word_and_value 3 0
 packed_answer answer.Waits = word_and_value 4 0
-packed_answer (answer.Load v) = packed_delivered 1 v
-packed_answer (answer.Ll v) = packed_delivered 2 v
-packed_answer answer.Store = packed_delivered 3 0
-packed_answer (answer.Sc v) = packed_delivered 4 v
+packed_answer (answer.Done d) = packed_delivered d
 packed_answer answer.Poked = word_and_value 9 0
 packed_answer (answer.Word v) = word_and_value 10 v
 
@@ -92,12 +92,3 @@ abbrev pub read_bytes : {E : Type 0} → Result (Option Numbered) E → List ℕ
 read_bytes (Ok (Some found)) = encode_record found.number found.«record»
 read_bytes (Ok None) = no_record
 read_bytes (Err refusal) = no_record
-
--- the operation that a number asks for: 1 load, 2 ll, 3 store, 4 sc
-unfoldable pub asked_of : ℕ → ℕ → ℕ → Option Operation
-asked_of code a value =
-    if code == 1 then Some (operation.Load (record { 0 = a }))
-    else if code == 2 then Some (operation.Ll (record { 0 = a }))
-    else if code == 3 then Some (operation.Store (record { 0 = a }) value)
-    else if code == 4 then Some (operation.Sc (record { 0 = a }) value)
-    else None

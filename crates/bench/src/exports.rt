@@ -5,9 +5,9 @@ ghost use Rattle.bench.specs.CallOutcome.{call_outcome};
 ghost use Rattle.bench.specs.Machines.{start_call_outcome, step_call_outcome, poke_call_outcome, start_call, give_call, step_call, poke_call, show_call};
 ghost use Rattle.bench.specs.Archives.{write_call_outcome, new_call, add_call, close_call, check_call, record_call, whole_call, sought_call};
 
-use crate::packed::{Packed, asked_of, handed_bytes, read_bytes};
+use crate::packed::{Packed, handed_bytes, read_bytes};
 use archive::{Put, Writer, decode_record};
-use machine::{GuestAddress, Machine, Refusal};
+use machine::{GuestAddress, Machine, Operation, Refusal};
 
 pub fn malthobre_start(
     m: &mut Machine,
@@ -26,7 +26,7 @@ pub fn malthobre_start(
 pub fn malthobre_give(m: &mut Machine, core: usize, operation: u8, address: u32, value: u32) -> u64
     ensures { call_outcome result m.new ≡ give_call m.old core operation address value }
 {
-    match asked_of(operation, address, value) {
+    match Operation::of(operation, GuestAddress(address), value) {
         Some(asked) => machine::give_in_place(m, core, asked).packed(),
         None => Refusal::NotUnderstood.packed(),
     }

@@ -14,11 +14,10 @@ ghost use Rattle.bench.specs.Packed.{
   packed_refusal,
   handed_bytes,
   read_bytes,
-  asked_of,
 };
 
 use archive::{ArchiveRefusal, Numbered, Put, encode_record};
-use machine::{Answer, GuestAddress, Operation, Record, Refusal};
+use machine::{Answer, Delivered, Record, Refusal};
 
 // A length or an index, in 32 bits. By hand: a From or TryFrom does not cut a number short, so none is plainer.
 fn low(x: usize) -> u32
@@ -80,12 +79,18 @@ impl Packed for ArchiveRefusal {
     }
 }
 
-// What an operation delivers, by the operation's number.
-fn delivered(operation: u8, value: u32) -> u64
-    requires { operation ≤ 251 }
-    ensures { result ≡ packed_delivered operation value }
-{
-    word_and_value(4 + operation, value)
+// What a finished operation answers.
+impl Packed for Delivered {
+    ghost packs = { packed_delivered };
+
+    fn packed(self) -> u64 {
+        match self {
+            Delivered::Load(v) => word_and_value(5, v),
+            Delivered::Ll(v) => word_and_value(6, v),
+            Delivered::Store => word_and_value(7, 0),
+            Delivered::Sc(v) => word_and_value(8, v),
+        }
+    }
 }
 
 impl Packed for Answer {
@@ -97,10 +102,7 @@ impl Packed for Answer {
             Answer::Taken => word_and_value(2, 0),
             Answer::Moved => word_and_value(3, 0),
             Answer::Waits => word_and_value(4, 0),
-            Answer::Load(v) => delivered(1, v),
-            Answer::Ll(v) => delivered(2, v),
-            Answer::Store => delivered(3, 0),
-            Answer::Sc(v) => delivered(4, v),
+            Answer::Done(delivered) => delivered.packed(),
             Answer::Poked => word_and_value(9, 0),
             Answer::Word(v) => word_and_value(10, v),
         }
@@ -163,20 +165,5 @@ pub(crate) fn read_bytes<E>(answer: &Result<Option<Numbered>, E>) -> [u8; 16]
     match answer {
         Ok(Some(found)) => encode_record(found.number, found.record),
         Ok(None) | Err(_) => [0; 16],
-    }
-}
-
-// The operation that a number asks for; a number and two arguments cross for the C interface.
-#[tactic(auto, unfolding(crate::specs::Packed::asked_of))]
-pub(crate) fn asked_of(code: u8, a: u32, value: u32) -> Option<Operation>
-    ensures { result ≡ asked_of code a value }
-{
-    let address = GuestAddress(a);
-    match code {
-        1 => Some(Operation::Load(address)),
-        2 => Some(Operation::Ll(address)),
-        3 => Some(Operation::Store(address, value)),
-        4 => Some(Operation::Sc(address, value)),
-        _ => None,
     }
 }

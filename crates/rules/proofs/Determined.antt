@@ -10,7 +10,9 @@ use denote.Param.Laws.{Laws}
 use Rattle.rules.specs.declared.entry.GuestAddress.{GuestAddress}
 use Rattle.rules.specs.declared.entry.EntryNumber.{EntryNumber}
 use Rattle.rules.specs.declared.kinds.Kind.{Kind}
+use Rattle.rules.specs.declared.operations.Operation.{Operation}
 use Rattle.rules.specs.declared.operations.Shape.{Shape}
+use Rattle.rules.specs.declared.answers.Record.{Record}
 use Rattle.rules.specs.declared.cores.Core.{Core}
 use Rattle.rules.specs.declared.cores.MicroStep.{MicroStep}
 use Rattle.rules.specs.declared.state.Machine.{Machine}
@@ -37,6 +39,12 @@ use Rattle.rules.proofs.kinds.Kind.number.Reads as kind-number-reads
 use Rattle.rules.specs.contracts.kinds.Kind.of as kind-of-number
 use Rattle.rules.proofs.kinds.Kind.of.Kinds as kind-of-number-kinds
 use Rattle.rules.proofs.kinds.Kind.of.Reads as kind-of-number-reads
+use Rattle.rules.specs.contracts.operations.Operation.of as operation-of-number
+use Rattle.rules.proofs.operations.Operation.of.Kinds as operation-of-number-kinds
+use Rattle.rules.proofs.operations.Operation.of.Reads as operation-of-number-reads
+use Rattle.rules.specs.contracts.answers.Record.of_poke as poke-record
+use Rattle.rules.proofs.answers.Record.of_poke.Kinds as poke-record-kinds
+use Rattle.rules.proofs.answers.Record.of_poke.Reads as poke-record-reads
 use Rattle.rules.specs.contracts.operations.Shape.of as shape-of-number
 use Rattle.rules.proofs.operations.Shape.of.Kinds as shape-of-number-kinds
 use Rattle.rules.proofs.operations.Shape.of.Reads as shape-of-number-reads
@@ -92,6 +100,14 @@ module _ (κs : Lfts 0) (a : ArgsD kind-number.signature κs) (one other : ℕ) 
 module _ (κs : Lfts 0) (a : ArgsD kind-of-number.signature κs) (one other : Option Kind) (s t : AtExit (ended_of 0 kind-of-number-kinds.ps kind-of-number-kinds.r) κs) where
   pub kind_of_number_determined : kind-of-number-reads.Post κs a one s → kind-of-number-reads.Post κs a other t → one ≡ other
   kind_of_number_determined p q = one-outcome (Option Kind) _ _ _ p q
+
+module _ (κs : Lfts 0) (a : ArgsD operation-of-number.signature κs) (one other : Option Operation) (s t : AtExit (ended_of 0 operation-of-number-kinds.ps operation-of-number-kinds.r) κs) where
+  pub operation_of_number_determined : operation-of-number-reads.Post κs a one s → operation-of-number-reads.Post κs a other t → one ≡ other
+  operation_of_number_determined p q = one-outcome (Option Operation) _ _ _ p q
+
+module _ (κs : Lfts 0) (a : ArgsD poke-record.signature κs) (one other : Record) (s t : AtExit (ended_of 0 poke-record-kinds.ps poke-record-kinds.r) κs) where
+  pub poke_record_determined : poke-record-reads.Post κs a one s → poke-record-reads.Post κs a other t → one ≡ other
+  poke_record_determined p q = one-outcome Record _ _ _ p q
 
 module _ (κs : Lfts 0) (a : ArgsD shape-of-number.signature κs) (one other : Option Shape) (s t : AtExit (ended_of 0 shape-of-number-kinds.ps shape-of-number-kinds.r) κs) where
   pub shape_of_number_determined : shape-of-number-reads.Post κs a one s → shape-of-number-reads.Post κs a other t → one ≡ other

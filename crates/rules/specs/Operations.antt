@@ -16,6 +16,15 @@ code_of (Asked.Ll a) = 2
 code_of (Asked.Store a v) = 3
 code_of (Asked.Sc a v) = 4
 
+-- the operation that a number asks for, if there is one: a load and an ll look at no value
+unfoldable pub asked_of : ℕ → GuestAddress → ℕ → Option Operation
+asked_of code a value =
+    if code == 1 then Some (Asked.Load a)
+    else if code == 2 then Some (Asked.Ll a)
+    else if code == 3 then Some (Asked.Store a value)
+    else if code == 4 then Some (Asked.Sc a value)
+    else None
+
 -- "each on one aligned word"
 abbrev pub address_of : Operation → GuestAddress
 address_of (Asked.Load a) = a

@@ -1,6 +1,6 @@
 // The operations, and the shape that each has.
 ghost use Rattle.std.specs.Prelude.{◌≡◌};
-ghost use Rattle.rules.specs.Operations.{code_of, address_of, value_of, shape_of, kind_of};
+ghost use Rattle.rules.specs.Operations.{code_of, asked_of, address_of, value_of, shape_of, kind_of};
 
 use crate::entry::GuestAddress;
 use crate::kinds::Kind;
@@ -37,6 +37,20 @@ impl Operation {
             Operation::Ll(_) => 2,
             Operation::Store(_, _) => 3,
             Operation::Sc(_, _) => 4,
+        }
+    }
+
+    // The operation that a number asks for, if there is one: a load and an ll look at no value.
+    #[tactic(auto, unfolding(crate::specs::Operations::asked_of))]
+    pub fn of(code: u8, address: GuestAddress, value: u32) -> Option<Operation>
+        ensures { result ≡ asked_of code address value }
+    {
+        match code {
+            1 => Some(Operation::Load(address)),
+            2 => Some(Operation::Ll(address)),
+            3 => Some(Operation::Store(address, value)),
+            4 => Some(Operation::Sc(address, value)),
+            _ => None,
         }
     }
 
