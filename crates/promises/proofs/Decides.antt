@@ -1,4 +1,4 @@
--- The function that decides the success rule decides exactly what document 01 words. The entry rule is any.
+-- The function that decides the success rule decides exactly what RULES 5.2 says. The entry rule is any.
 -- Assumes nothing.
 use Rattle.std.proofs.Common.{if◌then◌else◌}
 use Rattle.std.proofs.lemmas.Bool.{false_from_ne_true, not-true}

@@ -1,4 +1,4 @@
--- "in the evening the run goes into an archive": the records of every run from a fresh machine are good records, so a run can always be archived, up to 17.
+-- RULES 1.18: "In the evening the run is put into an archive": the records of every run are good records, so a run can always be archived, up to 17 (RULES 7.22).
 use Rattle.std.specs.Prelude.{◌≡◌, List, [], ◌∷◌, ◌++◌, reverse, ℕ, ◌≤◌, ◌<◌, ◌^◌, length}
 use Rattle.rules.specs.Operations.{value_of}
 use Rattle.rules.specs.Calls.{Outcome}

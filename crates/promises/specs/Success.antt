@@ -1,4 +1,5 @@
--- Document 01, "When a store-conditional succeeds": the rule as it is worded, over the history of access steps, the latest first. `entry` is the entry rule.
+-- RULES 5, when a store-conditional succeeds: the rule as it is written, over the history of access steps, the latest first. `entry` is the entry rule.
+-- RULES 5.1: "Whether an sc succeeds is judged from the history of access steps alone."
 use Rattle.std.specs.Prelude.{◌≡◌, ◌⊎◌, [], ◌∷◌, ◌++◌, ℕ}
 use Rattle.rules.specs.Kinds.{kind_number}
 use Rattle.rules.specs.History.{History}
@@ -23,11 +24,11 @@ LlBy c r = (r.core ≡ c) × (r.kind ≡ kind_number Ll)
 abbrev pub ScBy : ℕ → Record → Type 0
 ScBy c r = (r.core ≡ c) × ((r.kind ≡ kind_number Success) ⊎ (r.kind ≡ kind_number Failure))
 
--- "another core has done an ll, a store or a successful sc at any address with the same entry"
+-- RULES 5.6: one of "the other cores has done an ll, a store or an sc that succeeded at an address whose entry is that of a"
 abbrev pub SpoiledBy : (GuestAddress → EntryNumber) → ℕ → GuestAddress → Record → Type 0
 SpoiledBy entry c a r = (r.core ≡ c → ⊥) × ((r.kind ≡ kind_number Ll) ⊎ ((r.kind ≡ kind_number Store) ⊎ (r.kind ≡ kind_number Success))) × (entry r.address ≡ entry a)
 
--- "c has done an ll": the latest, what was before it and what has been since
+-- RULES 5.3: "Core c has done an ll.": the latest, what was before it and what has been since
 pub record LatestLl (c : ℕ) (history : History) : Type 0 where
   pub since : History
   pub ll : Record
@@ -36,9 +37,13 @@ pub record LatestLl (c : ℕ) (history : History) : Type 0 where
   pub by_core : LlBy c ll
   pub latest : Never (LlBy c) since
 
--- "core c's sc at address a succeeds exactly if c has done an ll, the latest was at a, c has done no sc since, and since that ll no other core has done an ll, a store or a successful sc at any address with the same entry"
+-- RULES 5.2: "An sc of core c at address a succeeds where all four of 5.3 to 5.6 hold, and fails where one of them does not."
 pub record Succeeds (entry : GuestAddress → EntryNumber) (c : ℕ) (a : GuestAddress) (history : History) : Type 0 where
+  -- RULES 5.3: "Core c has done an ll."
   pub done : LatestLl c history
+  -- RULES 5.4: "The latest ll of core c was at address a."
   pub there : done.ll.address ≡ a
+  -- RULES 5.5: "Core c has done no sc after that ll."
   pub no_sc : Never (ScBy c) done.since
+  -- RULES 5.6: "Since that ll, none of the other cores has done an ll, a store or an sc that succeeded at an address whose entry is that of a."
   pub unspoiled : Never (SpoiledBy entry c a) done.since

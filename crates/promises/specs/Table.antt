@@ -1,4 +1,4 @@
--- Document 01, "Small runs": "3 cores, 64 bytes, 4 entries, fresh, each operation run whole. Marked P: proved."
+-- RULES 9, the small runs. RULES 9.3: "P1 to P10 are proved"
 use Rattle.std.specs.Prelude.{◌≡◌, List, [], ◌∷◌, ◌++◌, ℕ, replicate}
 use Rattle.rules.specs.Word.{read_word}
 use Rattle.rules.specs.Kinds.{kind_number}
@@ -17,11 +17,11 @@ use Rattle.rules.specs.declared.operations.Shape.TheVariants.{Load, Locks}
 use Rattle.rules.specs.declared.answers.Delivered.{Delivered}
 use Rattle.rules.specs.declared.answers.Delivered.TheVariants as Answered
 
--- "3 cores, 64 bytes, 4 entries, fresh"
+-- RULES 9.1: "Each begins fresh, with 3 cores, 64 bytes and 4 entries"
 unfoldable pub small : Outcome
 small = start_of 3 (replicate 64 0) (replicate 4 0) (replicate 4 0)
 
--- "each operation run whole": given, and stepped to its end; the latest call first
+-- RULES 9.1: "runs each operation whole, one after the other": given, and stepped to its end; the latest call first
 abbrev pub steps_of : Shape → ℕ → List Call
 steps_of Load c = step c ∷ []
 steps_of (Locks l) c = step c ∷ step c ∷ step c ∷ step c ∷ []
@@ -74,27 +74,29 @@ success = Answered.Sc 0
 abbrev failure : Delivered
 failure = Answered.Sc 1
 
+-- RULES 11.10: "P1 to P10 stand in one table, under one statement that is proved."
+-- Each row stands under that of RULES 9: the operations, the last sc, and what is besides. A row here has all answers, and a word at the end.
 abbrev pub rows : List Row
 rows =
-    -- "P1: 0 ll 8, 0 sc 8 5: success; word 8 is 5."
+    -- P1: "c0 ll 8; c0 sc 8 5 | succeeds | word 8 is then 5"
     plays (ll 0 8 ∷ sc 0 8 5 ∷ []) (success ∷ linked ∷ []) 8 5
-    -- "P2: 0 ll 8, 1 store 8 7, 1 store 8 0, 0 sc 8 5: failure; word 8 is 0."
+    -- P2: "c0 ll 8; c1 store 8 7; c1 store 8 0; c0 sc 8 5 | fails | word 8 is then 0"
     ∷ plays (ll 0 8 ∷ store 1 8 7 ∷ store 1 8 0 ∷ sc 0 8 5 ∷ []) (failure ∷ stored ∷ stored ∷ linked ∷ []) 8 0
-    -- "P3: 0 ll 8, 1 store 8 7, 0 store 24 9, 0 sc 8 5: failure."
+    -- P3: "c0 ll 8; c1 store 8 7; c0 store 24 9; c0 sc 8 5 | fails"
     ∷ plays (ll 0 8 ∷ store 1 8 7 ∷ store 0 24 9 ∷ sc 0 8 5 ∷ []) (failure ∷ stored ∷ stored ∷ linked ∷ []) 8 7
-    -- "P4: 0 ll 8, 1 ll 24, 0 sc 8 5: failure; then 1 sc 24 4: success."
+    -- P4: "c0 ll 8; c1 ll 24; c0 sc 8 5; c1 sc 24 4 | succeeds | the first sc fails"
     ∷ plays (ll 0 8 ∷ ll 1 24 ∷ sc 0 8 5 ∷ sc 1 24 4 ∷ []) (success ∷ failure ∷ linked ∷ linked ∷ []) 24 4
-    -- "P5: 0 ll 8, 0 store 8 3, 0 sc 8 5: success."
+    -- P5: "c0 ll 8; c0 store 8 3; c0 sc 8 5 | succeeds"
     ∷ plays (ll 0 8 ∷ store 0 8 3 ∷ sc 0 8 5 ∷ []) (success ∷ stored ∷ linked ∷ []) 8 5
-    -- "P6: 0 ll 8, 0 sc 12 5: failure; then 0 sc 8 5: failure."
+    -- P6: "c0 ll 8; c0 sc 12 5; c0 sc 8 5 | fails | the first sc fails too"
     ∷ plays (ll 0 8 ∷ sc 0 12 5 ∷ sc 0 8 5 ∷ []) (failure ∷ failure ∷ linked ∷ []) 8 0
-    -- "P7: 0 ll 8, 1 store 12 1, 0 sc 8 5: success."
+    -- P7: "c0 ll 8; c1 store 12 1; c0 sc 8 5 | succeeds"
     ∷ plays (ll 0 8 ∷ store 1 12 1 ∷ sc 0 8 5 ∷ []) (success ∷ stored ∷ linked ∷ []) 8 5
-    -- "P8: 0 ll 8, 1 sc 24 4: failure; then 0 sc 8 5: success."
+    -- P8: "c0 ll 8; c1 sc 24 4; c0 sc 8 5 | succeeds | the first sc fails"
     ∷ plays (ll 0 8 ∷ sc 1 24 4 ∷ sc 0 8 5 ∷ []) (success ∷ failure ∷ linked ∷ []) 8 5
-    -- "P9: 0 ll 8, poke 8 9, 0 sc 8 5: success; word 8 is 5."
+    -- P9: "c0 ll 8; poke 8 9; c0 sc 8 5 | succeeds | word 8 is then 5"
     ∷ plays (ll 0 8 ∷ pokes (record { 0 = 8 }) 9 ∷ sc 0 8 5 ∷ []) (success ∷ linked ∷ []) 8 5
-    -- "P10: words 1, 2 give sums 3 and 4; the word 65,535 gives 0 and 0."
+    -- RULES 9.2: "P10: the words 1 and 2 have the sums 3 and 4, and the word 65,535 alone has 0 and 0"
     ∷ sums (1 ∷ 2 ∷ []) 3 4
     ∷ sums (65535 ∷ []) 0 0
     ∷ []

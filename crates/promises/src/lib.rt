@@ -1,2 +1,3 @@
 #![tactic(auto)]
-// No code: what is promised of the machine stands in specs/, and its proofs in proofs/.
+// No code: what is promised of the machine stands in specs/, under the sentences of docs/RULES.md with their numbers,
+// and its proofs in proofs/.

@@ -1,4 +1,4 @@
--- What the history of access steps says: whether a store-conditional succeeds, and the links and owner marks it makes. A history is the records handed out, the latest first; `entry` is the entry rule.
+-- RULES 5, when a store-conditional succeeds: what the history of access steps says of it, and the links and owner marks it makes. A history is the records handed out, the latest first; `entry` is the entry rule.
 use Rattle.std.specs.Prelude.{ℕ, Bool, true, false, not, ◌&&◌, List, [], ◌∷◌, ◌==◌, if◌then◌else◌}
 use Rattle.rules.specs.Entry.{nowhere}
 use Rattle.rules.specs.Kinds.{rule_at, links_kind, unlinks_kind, spoils_kind, mark_after}
@@ -9,9 +9,9 @@ use Rattle.rules.specs.declared.answers.Record.{Record}
 abbrev pub History : Type 0
 History = List Record
 
--- Whether core c's sc at address a succeeds. That this decides document 01's sentence is proved in the crate `promises`.
+-- RULES 5.1: "Whether an sc succeeds is judged from the history of access steps alone."
 
--- an ll and an sc by this core; an access by another that ends links at its entry
+-- an ll and an sc by this core; an access by another that ends links at its entry (RULES 5.6)
 abbrev pub own_ll : ℕ → Record → Bool
 own_ll c r = r.core == c && links_kind r.kind
 
@@ -21,6 +21,7 @@ own_sc c r = r.core == c && unlinks_kind r.kind
 abbrev pub spoils : (GuestAddress → EntryNumber) → ℕ → GuestAddress → Record → Bool
 spoils entry c a r = not (r.core == c) && spoils_kind r.kind && (entry r.address).0 == (entry a).0
 
+-- Whether core c's sc succeeds at address a. That this decides RULES 5.2, as it is written, is proved in the crate `promises`.
 unfoldable pub succeeds : (GuestAddress → EntryNumber) → ℕ → GuestAddress → History → Bool
 succeeds entry c a [] = false
 succeeds entry c a (r ∷ h) = if own_ll c r then (r.address.0 == a.0) else if own_sc c r then false else if spoils entry c a r then false else succeeds entry c a h

@@ -4,7 +4,7 @@ use Rattle.rules.specs.Sizes.{written}
 use Rattle.rules.specs.declared.kinds.Kind.{Kind}
 use Rattle.rules.specs.declared.kinds.Kind.TheVariants.{Load, Ll, Store, Success, Failure, Poke}
 
--- "kind (1 load, 2 ll, 3 store, 4 sc success, 5 sc failure, 6 poke)"
+-- RULES 7.5: "The kinds are: 1, a load; 2, an ll; 3, a store; 4, an sc that succeeded; 5, an sc that failed; 6, a poke."
 abbrev pub kind_number : Kind → ℕ
 kind_number Load = 1
 kind_number Ll = 2
@@ -24,7 +24,7 @@ kind_at number =
     else if number == kind_number Poke then Some Poke
     else None
 
--- "255 for poke"
+-- RULES 7.4: "the core, 0 to 7; a poke has 255"
 abbrev pub poke_core : ℕ
 poke_core = 255
 
@@ -55,7 +55,7 @@ pub record KindRule : Type 0 where
 abbrev pub row : Memory → LinkRule → MarkRule → KindRule
 row memory link mark = record { memory = memory; link = link; mark = mark }
 
--- the rows
+-- the rows: RULES 4.4 of a load, 4.8 and 4.12 of an ll, 4.9 and 4.13 of a store, 4.14 to 4.16 of an sc, 4.31 and 4.32 of a poke
 abbrev pub rule_of : Kind → KindRule
 rule_of Load = row reads keeps leaves
 rule_of Ll = row reads links marks
@@ -92,7 +92,7 @@ unlinking keeps = false
 unlinking links = false
 unlinking unlinks = true
 
--- whether it ends other cores' links at its entry: whatever does not leave their mark
+-- whether it ends other cores' links at its entry (RULES 5.6): whatever does not leave their mark
 abbrev pub spoiling : MarkRule → Bool
 spoiling leaves = false
 spoiling marks = true

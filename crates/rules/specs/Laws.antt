@@ -16,7 +16,7 @@ use Rattle.rules.specs.declared.cores.Core.{Core}
 use Rattle.rules.specs.declared.state.Machine.{Machine}
 use Rattle.rules.specs.declared.state.Called.{Called}
 
--- The entry rule, once for every number of entries that is a power of two from 1 to 4,096: the entry is below it, and one word has one entry.
+-- RULES 11.11: "The entry rule is proved one time, for all E.": the entry is below E, and one word has one entry.
 pub record EntryLaws (entry : ℕ → GuestAddress → EntryNumber) : Type 0 where
   pub below : (entries : ℕ) (a : GuestAddress) → entries_fit entries ≡ true → (entry entries a).0 < entries
   pub one_word : (entries : ℕ) (a b : GuestAddress) → entries_fit entries ≡ true → a.0 / 4 ≡ b.0 / 4 → entry entries a ≡ entry entries b
@@ -52,7 +52,7 @@ pub record KindLaws : Type 0 where
   pub linked_by_kind : (me : ℕ) (c : Core) (owner holder word : ℕ) → operation_occurs c.operation ≡ true → (micro_step me c owner holder word).core.linked ≡ linked_made (micro_step me c owner holder word).made c
   pub link_by_kind : (me : ℕ) (c : Core) (owner holder word : ℕ) → operation_occurs c.operation ≡ true → (micro_step me c owner holder word).core.link ≡ link_made (micro_step me c owner holder word).made c
 
--- What a refusal leaves: machine, memory, owners and holders as found, no record, and no value but its number.
+-- What a refusal leaves (RULES 6.2 to 6.5): machine, memory, owners and holders as found, no record, and no value but its number.
 pub record AsFound (o : Outcome) (m : Machine) (memory owners holders : List ℕ) : Type 0 where
   pub machine_as_found : o.called.machine ≡ m
   pub memory_as_found : o.memory ≡ memory
@@ -67,7 +67,7 @@ Refused r = number_in r.answer ≡ 0 → ⊥
 abbrev pub Accepted : Called → Type 0
 Accepted r = number_in r.answer ≡ 0
 
--- Each refusal leaves everything as found. (Buffers that a call is not lent are named beside it; start, given no machine, answers an all-zero one.)
+-- RULES 1.3: "A refusal leaves machine, memory, table .. as it found them." (Buffers that a call is not lent are named beside it; what start returns is all zero, RULES 6.4.)
 pub record RefusalLaws : Type 0 where
   pub start_as_found : (count : ℕ) (memory owners holders : List ℕ)
       → Refused (start_of count memory owners holders).called → AsFound (start_of count memory owners holders) (all_idle 0 0 0) memory owners holders
@@ -98,6 +98,6 @@ pub record RangeLaws : Type 0 where
   pub poke_sound : (m : Machine) (memory : List ℕ) (a : GuestAddress) (value : ℕ) (owners holders : List ℕ) → lent_fits m (length memory) (length owners) (length holders) ≡ true
       → Accepted (poke_of m memory a value).called → Sound (outcome (poke_of m memory a value).called (poke_of m memory a value).memory owners holders)
 
--- Every public contract is an equation to a rule, and an equation to a rule allows one outcome on each input.
+-- RULES 11.2: "Any two outcomes that a contract allows are shown to be equal.": every public contract is an equation to a rule.
 abbrev pub OneOutcome : Type 1
 OneOutcome = (Outcome : Type 0) (rule one other : Outcome) → one ≡ rule → other ≡ rule → one ≡ other

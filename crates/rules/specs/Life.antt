@@ -1,4 +1,4 @@
--- Document 01, "Life of an operation": what each micro-step makes of a core, of its entry's owner and holder, and of the word at its address.
+-- RULES 4, life of an operation: what each micro-step makes of a core, of its entry's owner and holder, and of the word at its address.
 use Rattle.std.specs.Prelude.{ℕ, Bool, true, false, ◌&&◌, Option, Some, None, ◌==◌, nat_eq, if◌then◌else◌}
 use Rattle.rules.specs.Sizes.{written}
 use Rattle.rules.specs.Entry.{nowhere}
@@ -17,7 +17,7 @@ use Rattle.rules.specs.declared.answers.Record.{Record}
 use Rattle.rules.specs.declared.cores.Core.{Core}
 use Rattle.rules.specs.declared.cores.MicroStep.{MicroStep}
 
--- "Fields unused in a core's present state are 0": of an idle core only the link may be in use
+-- RULES 4.23: "A field of a core for which its present state has no use is 0.": of an idle core only the link may be in use
 abbrev pub resting : Bool → GuestAddress → Core
 resting linked link = record { busy = false; operation = 0; next = 0; passed = false; linked = linked; address = nowhere; value = 0; read = 0; link = link }
 
@@ -25,7 +25,7 @@ resting linked link = record { busy = false; operation = 0; next = 0; passed = f
 abbrev pub idle : Core
 idle = resting false nowhere
 
--- "Giving an operation to an idle core checks its address and changes nothing but that core."
+-- RULES 4.1: "A give hands an operation to an idle core."
 abbrev pub given : Core → Operation → Core
 given c o = record { busy = true; operation = code_of o; next = 1; passed = false; linked = c.linked; address = address_of o; value = value_of o; read = 0; link = c.link }
 
@@ -33,11 +33,12 @@ given c o = record { busy = true; operation = code_of o; next = 1; passed = fals
 abbrev pub advanced : Core → ℕ → Core
 advanced c next = record { busy = c.busy; operation = c.operation; next = next; passed = c.passed; linked = c.linked; address = c.address; value = c.value; read = c.read; link = c.link }
 
--- "A step that leaves an operation unfinished answers "moved"." Only the access step hands out a record.
+-- RULES 4.20: "A step that is done and leaves its operation unfinished answers `moved`."
+-- RULES 4.22: "A step that is no access step hands out no record."
 abbrev pub moves : Core → ℕ → ℕ → MicroStep
 moves c owner holder = record { answer = Moved; made = None; core = c; owner = owner; holder = holder; writes = false }
 
--- "Each access step also hands out the record it makes (core, kind, address, value)"
+-- RULES 4.21: "An access step hands out the record of its access: core, kind, address, value"
 abbrev pub record_of : ℕ → Core → ℕ → Record
 record_of me c value = record { core = me; kind = kind_of c.operation c.passed; address = c.address; value = value }
 
@@ -45,27 +46,29 @@ record_of me c value = record { core = me; kind = kind_of c.operation c.passed; 
 abbrev pub stays : Answer → Core → ℕ → ℕ → MicroStep
 stays answer c owner holder = record { answer = answer; made = None; core = c; owner = owner; holder = holder; writes = false }
 
--- "A load has one step: it reads and finishes." "A load's only step is its access step."
+-- RULES 4.4: "A load has a single step, which is its access step: it reads the word, and the load is finished."
 unfoldable pub load_step : ℕ → Core → ℕ → ℕ → ℕ → MicroStep
 load_step me c owner holder word =
     record { answer = Done (Answered.Load word); made = Some (record_of me c word); core = resting c.linked c.link; owner = owner; holder = holder; writes = false }
 
--- "1. Take the entry's lock if its holder is 0. Otherwise the answer is "waits" and nothing changes."
+-- RULES 4.6: "Step 1 takes the lock of the entry where its holder is 0."
+-- RULES 4.7: "Where the holder is not 0, step 1 answers `waits` and changes nothing."
 unfoldable pub lock_step : ℕ → Core → ℕ → ℕ → MicroStep
 lock_step me c owner holder = if holder == 0 then moves (advanced c 2) owner (written me) else stays Waits c owner holder
 
--- "2. ll: set the owner to this core."
+-- RULES 4.8: "Step 2 of an ll makes this core the owner."
 abbrev pub ll_mark : ℕ → Core → ℕ → ℕ → MicroStep
 ll_mark me c owner holder = moves (advanced c 3) (written me) holder
 
--- "Store: if the owner is this core leave it, else set it to 0."
+-- RULES 4.9: "Step 2 of a store leaves the owner where it is this core, and makes it 0 where it is not."
 abbrev pub store_mark : ℕ → Core → ℕ → ℕ → MicroStep
 store_mark me c owner holder = moves (advanced c 3) (if nat_eq owner (written me) then owner else 0) holder
 
--- "sc: pass exactly if the link is this address and the owner is this core; remember the outcome."
+-- RULES 4.10: "Step 2 of an sc passes where the link is the sc's address and the owner is this core, and only there."
 abbrev pub passes : ℕ → Core → ℕ → Bool
 passes me c owner = c.linked && c.link.0 == c.address.0 && owner == written me
 
+-- RULES 4.10: "The core remembers the outcome."
 abbrev pub judged : Core → Bool → Core
 judged c passed = record { busy = c.busy; operation = c.operation; next = 3; passed = passed; linked = c.linked; address = c.address; value = c.value; read = c.read; link = c.link }
 
@@ -77,7 +80,8 @@ mark_step Ll me c owner holder = ll_mark me c owner holder
 mark_step Store me c owner holder = store_mark me c owner holder
 mark_step Sc me c owner holder = sc_mark me c owner holder
 
--- "3. The access step. ll: read, and set the link."
+-- RULES 4.11: "Step 3 is the access step."
+-- RULES 4.12: "Step 3 of an ll reads the word, and the link becomes its address."
 abbrev pub ll_access : ℕ → Core → ℕ → ℕ → ℕ → MicroStep
 ll_access me c owner holder word =
     record {
@@ -89,12 +93,14 @@ ll_access me c owner holder word =
       writes = false;
     }
 
--- "Store: write."
+-- RULES 4.13: "Step 3 of a store writes the word."
 abbrev pub store_access : ℕ → Core → ℕ → ℕ → MicroStep
 store_access me c owner holder =
     record { answer = Moved; made = Some (record_of me c c.value); core = advanced c 4; owner = owner; holder = holder; writes = true }
 
--- "sc: if passed, write and set the owner to 0; if not, leave owner and memory; in both cases the link becomes none."
+-- RULES 4.14: "Step 3 of an sc that passed writes the word and makes the owner 0."
+-- RULES 4.15: "Step 3 of an sc that did not pass changes neither the owner nor memory."
+-- RULES 4.16: "Step 3 of an sc leaves its core without a link, whether it passed or not."
 abbrev pub sc_access : ℕ → Core → ℕ → ℕ → MicroStep
 sc_access me c owner holder =
     record {
@@ -111,17 +117,18 @@ access_step Ll me c owner holder word = ll_access me c owner holder word
 access_step Store me c owner holder word = store_access me c owner holder
 access_step Sc me c owner holder word = sc_access me c owner holder
 
--- "The answer of sc is 0 for success, 1 for failure."
+-- RULES 4.18: "A load and an ll answer the word that they read. A store answers no value."
+-- RULES 4.19: "An sc answers 0 where it succeeded and 1 where it failed."
 unfoldable pub delivered : Locking → Core → Delivered
 delivered Ll c = Answered.Ll c.read
 delivered Store c = Answered.Store
 delivered Sc c = Answered.Sc (if c.passed then 0 else 1)
 
--- "4. Set the holder to 0, deliver the answer, become idle."
+-- RULES 4.17: "Step 4 makes the holder 0 and delivers the answer, and the core is idle."
 abbrev pub leave_step : Locking → Core → ℕ → MicroStep
 leave_step l c owner = record { answer = Done (delivered l c); made = None; core = resting c.linked c.link; owner = owner; holder = 0; writes = false }
 
--- "A load has one step .. The others have four"
+-- RULES 4.5: "An ll, a store and an sc have four steps each."
 abbrev pub locked_step : Locking → ℕ → Core → ℕ → ℕ → ℕ → MicroStep
 locked_step l me c owner holder word =
     if c.next == 1 then lock_step me c owner holder
@@ -129,11 +136,12 @@ locked_step l me c owner holder word =
     else if c.next == 3 then access_step l me c owner holder word
     else leave_step l c owner
 
--- an operation that cannot occur has no step: a state that has one is out of its ranges
+-- an operation that cannot occur has no step: a state that has one is out of its ranges (RULES 6.21)
 abbrev pub step_by : Option Shape → ℕ → Core → ℕ → ℕ → ℕ → MicroStep
 step_by None me c owner holder word = stays Waits c owner holder
 step_by (Some Load) me c owner holder word = load_step me c owner holder word
 step_by (Some (Locks l)) me c owner holder word = locked_step l me c owner holder word
 
+-- RULES 4.3: "A micro-step takes a core's private part and hands back the one that it has from then on."
 unfoldable pub micro_step : ℕ → Core → ℕ → ℕ → ℕ → MicroStep
 micro_step me c owner holder word = step_by (shape_of c.operation) me c owner holder word

@@ -1,4 +1,5 @@
--- The operations: the number that a core's state keeps each by, its shape, which says what steps it has, and the kind of record that its access step makes. Every step goes by the shape; the number stands in the state alone, and the kind in the record.
+-- RULES 2.3: "A core can do four operations: load, load-link (ll), store and store-conditional (sc)."
+-- Of each: the number that a core's state keeps it by, its shape, which says what steps it has, and the kind of record that its access step makes. Every step goes by the shape; the number stands in the state alone, and the kind in the record.
 use Rattle.std.specs.Prelude.{ℕ, Bool, true, false, Option, Some, None, ◌==◌, if◌then◌else◌}
 use Rattle.rules.specs.Kinds.{kind_number}
 use Rattle.rules.specs.declared.entry.GuestAddress.{GuestAddress}
@@ -9,14 +10,14 @@ use Rattle.rules.specs.declared.operations.Shape.{Shape}
 use Rattle.rules.specs.declared.operations.Shape.TheVariants.{Load, Locks}
 use Rattle.rules.specs.declared.operations.Locking.TheVariants.{Ll, Store, Sc}
 
--- "Operations: load, load-link (ll), store, store-conditional (sc)": a core's state keeps them as 1, 2, 3 and 4
+-- RULES 4.30: "A core keeps its operation as a number: 1 load, 2 ll, 3 store, 4 sc"
 abbrev pub code_of : Operation → ℕ
 code_of (Asked.Load a) = 1
 code_of (Asked.Ll a) = 2
 code_of (Asked.Store a v) = 3
 code_of (Asked.Sc a v) = 4
 
--- the operation that a number asks for, if there is one: a load and an ll look at no value
+-- the operation that a number asks for, if there is one (RULES 13.3): a load and an ll look at no value
 unfoldable pub asked_of : ℕ → GuestAddress → ℕ → Option Operation
 asked_of code a value =
     if code == 1 then Some (Asked.Load a)
@@ -25,21 +26,23 @@ asked_of code a value =
     else if code == 4 then Some (Asked.Sc a value)
     else None
 
--- "each on one aligned word"
+-- RULES 2.3: "Each is on one aligned word."
 abbrev pub address_of : Operation → GuestAddress
 address_of (Asked.Load a) = a
 address_of (Asked.Ll a) = a
 address_of (Asked.Store a v) = a
 address_of (Asked.Sc a v) = a
 
--- "for store and sc, value"
+-- RULES 4.25: "A busy core uses the value where the operation is a store or an sc."; elsewhere it is 0 (RULES 4.23)
 abbrev pub value_of : Operation → ℕ
 value_of (Asked.Load a) = 0
 value_of (Asked.Ll a) = 0
 value_of (Asked.Store a v) = v
 value_of (Asked.Sc a v) = v
 
--- an operation's shape, by its number: "A load has one step .. The others have four"
+-- an operation's shape, by its number
+-- RULES 4.4: "A load has a single step"
+-- RULES 4.5: "An ll, a store and an sc have four steps each."
 unfoldable pub shape_of : ℕ → Option Shape
 shape_of operation =
     if operation == 1 then Some Load
@@ -48,7 +51,7 @@ shape_of operation =
     else if operation == 4 then Some (Locks Sc)
     else None
 
--- the kind of record that its access step makes: an sc makes one of two
+-- the kind of record (RULES 7.5) that its access step makes: an sc makes one of two
 unfoldable pub kind_of : ℕ → Bool → ℕ
 kind_of operation passed =
     if operation == 1 then kind_number Kind.Load

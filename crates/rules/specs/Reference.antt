@@ -1,4 +1,6 @@
--- The reference machine: it has neither table nor locks, runs whole operations one after another, and judges each store-conditional by the written rule from the history of finished accesses alone.
+-- RULES 1, what is demanded: the reference machine of demand 3, on which whole operations are run one by one (RULES 1.10).
+-- RULES 1.11: "The reference machine has no table and no locks."
+-- RULES 1.12: "The reference machine decides each sc by the success rule as it is written (5), and knows nothing but the history of the accesses that are finished."
 use Rattle.std.specs.Prelude.{ℕ, Bool, true, false, List, [], ◌∷◌, ◌==◌, if◌then◌else◌}
 use Rattle.rules.specs.Word.{read_word, write_word}
 use Rattle.rules.specs.Operations.{code_of, address_of, value_of, kind_of, shape}

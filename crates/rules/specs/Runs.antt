@@ -1,4 +1,5 @@
--- Runs of the machine from a fresh one: lists of calls with any arguments, the latest first, refused and waiting ones included; and what a run hands out and delivers.
+-- RULES 1, what is demanded: runs. RULES 1.9: "A run begins with a fresh machine (6.16) and goes on with any sequence of gives, micro-steps and pokes by the bench."
+-- A run is a list of calls with any arguments, the latest first, refused and waiting ones included. Beside it: what a run hands out and delivers.
 use Rattle.std.specs.Prelude.{◌≡◌, ℕ, ◌&&◌, List, [], ◌∷◌, Option, Some, None, Result, Ok, length, ◌==◌, if◌then◌else◌}
 use Rattle.rules.specs.Entry.{entry_of, nowhere}
 use Rattle.rules.specs.Refusals.{no_refusal, number_in}
@@ -21,13 +22,13 @@ pub data Call : Type 0 where
   step : ℕ → Call
   poke : GuestAddress → ℕ → Call
 
--- what a call makes of what the calls before it left
+-- RULES 1.9: "Each is made on the state and on the buffers as the call before it left them"
 unfoldable pub act : Outcome → Call → Outcome
 act o (give core operation) = outcome (give_of o.called.machine core operation) o.memory o.owners o.holders
 act o (step core) = step_of o.called.machine o.memory o.owners o.holders core
 act o (poke a value) = outcome (poke_of o.called.machine o.memory a value).called (poke_of o.called.machine o.memory a value).memory o.owners o.holders
 
--- a fresh machine: any start that is not refused
+-- a fresh machine: any start that is not refused (RULES 6.16)
 pub record Fresh (o : Outcome) : Type 0 where
   pub count : ℕ
   pub memory : List ℕ
@@ -42,6 +43,7 @@ after fresh [] = fresh
 after fresh (call ∷ calls) = act (after fresh calls) call
 
 -- the records handed out, the latest first
+-- RULES 1.13: "A call that was refused and a step that waited are not in the history."
 abbrev pub handed : Option Record → History → History
 handed None h = h
 handed (Some r) h = r ∷ h
@@ -50,7 +52,7 @@ unfoldable pub records : Outcome → List Call → History
 records fresh [] = []
 records fresh (call ∷ calls) = handed (act (after fresh calls) call).called.made (records fresh calls)
 
--- the operations that a core was given, the latest first: "Refused calls are no part of the history"
+-- the operations that a core was given, the latest first, those of refused gives left out
 abbrev pub with_given : ℕ → Call → Result Answer Refusal → List Operation → List Operation
 with_given c (give core operation) answer os = if core == c && number_in answer == 0 then operation ∷ os else os
 with_given c (step core) answer os = os
@@ -79,7 +81,7 @@ abbrev pub last_of : List Operation → Operation
 last_of [] = Asked.Load nowhere
 last_of (o ∷ os) = o
 
--- the whole operations in the order of their access steps: at each access, the operation that its core was given last; and each poke
+-- the whole operations, "in the order in which their access steps came" (RULES 1.10): at each access, the operation that its core was given last; and each poke
 abbrev pub at_access : Option Record → Whole → List Whole → List Whole
 at_access None w ws = ws
 at_access (Some r) w ws = w ∷ ws

@@ -1,4 +1,4 @@
--- Guest memory is lent bytes, and a word is four of them, the lowest first.
+-- RULES 3.9: "Memory is lent as bytes, and a word is four of them, the lowest first"
 use Rattle.std.specs.Prelude.{ℕ, zero, suc, ◌+◌, ◌*◌, ◌/◌, ◌%◌, List, slice_index, slice_set}
 use Rattle.rules.specs.declared.entry.GuestAddress.{GuestAddress}
 

@@ -26,9 +26,9 @@ pub enum Delivered {
     Sc(u32),
 }
 
-// One access: which core made it (255: the bench), its kind, its address, and the value read,
-// written or not written. Core and kind are the archive's numbers, and may be any: of those that none has, the
-// writer's `add_refusal` says that they are refused.
+// One access, as RULES 7.4 has it: which core made it (255: the bench), its kind, its address, and the value, which
+// was read, or written, or in kind 5 would have been. Core and kind are the archive's numbers, and may be any: of
+// those that none has, the writer's `add_refusal` says that they are refused.
 #[derive(Clone, Copy, PartialEq, Eq, Debug)]
 pub struct Record {
     pub core: u8,

@@ -1,4 +1,4 @@
-// Guest addresses and entry numbers, and the one rule between them.
+// Guest addresses and entry numbers, and the one rule between them (RULES 3.7, 3.8).
 ghost use Rattle.std.specs.Prelude.{◌≡◌};
 ghost use Rattle.rules.specs.Entry.{entry_of};
 

@@ -2,9 +2,9 @@
 // The rules of the memory engine: what is asked, answered and handed out, the state that the rules speak of,
 // and the micro-steps of one core.
 //
-// specs/ has the rules themselves, a page for each part of the document, and proofs/ what follows from them
-// alone: their laws, and what holds in every run. A public function takes any input, and its contract is an
-// equation to a definition of specs/.
+// specs/ has the rules themselves, a page for each part of docs/RULES.md, whose sentences are cited by number
+// (RULES 4.6), and proofs/ what follows from them alone: their laws, and what holds in every run. A public
+// function takes any input, and its contract is an equation to a definition of specs/.
 mod answers;
 mod cores;
 mod entry;

@@ -13,7 +13,7 @@ pub enum Operation {
     Sc(GuestAddress, u32),
 }
 
-// What steps an operation has: a load has one, and takes no lock; the others have four.
+// What steps an operation has: a load has one, and takes no lock; the others have four (RULES 4.4, 4.5).
 #[derive(Clone, Copy, PartialEq, Eq, Debug)]
 pub enum Shape {
     Load,

@@ -1,4 +1,4 @@
-// Why a call refuses: document 01's answer numbers from 1 on, those of the machine's calls, of a script's lines and
+// Why a call refuses: RULES 6.1's answer numbers from 1 on, those of the machine's calls, of a script's lines and
 // of the archive's calls in one table.
 ghost use Rattle.std.specs.Prelude.{◌≡◌};
 ghost use Rattle.rules.specs.Refusals.{refusal_number, number_in};
