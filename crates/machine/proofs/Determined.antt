@@ -51,7 +51,8 @@ use Rattle.machine.proofs.calls.show.show_word.Kinds as show-word-kinds
 use Rattle.machine.proofs.calls.show.show_word.Reads as show-word-reads
 
 module _ (κs : Lfts 3) (a : ArgsD start.signature κs) (one other : Called) (s t : AtExit (ended_of 3 start-kinds.ps start-kinds.r) κs) where
-  pub start_determined : start-reads.Post κs a one s → start-reads.Post κs a other t → outcome one s.1.0.now s.1.1.0.now s.1.1.1.0.now ≡ outcome other t.1.0.now t.1.1.0.now t.1.1.1.0.now
+  pub start_determined : start-reads.Post κs a one s → start-reads.Post κs a other t
+      → outcome one s.1.0.now s.1.1.0.now s.1.1.1.0.now ≡ outcome other t.1.0.now t.1.1.0.now t.1.1.1.0.now
   start_determined p q = one-outcome Outcome _ _ _ p.1 q.1
 
 module _ (κs : Lfts 0) (a : ArgsD give.signature κs) (one other : Called) (s t : AtExit (ended_of 0 give-kinds.ps give-kinds.r) κs) where
@@ -59,7 +60,8 @@ module _ (κs : Lfts 0) (a : ArgsD give.signature κs) (one other : Called) (s t
   give_determined p q = one-outcome Called _ _ _ p.1 q.1
 
 module _ (κs : Lfts 3) (a : ArgsD step.signature κs) (one other : Called) (s t : AtExit (ended_of 3 step-kinds.ps step-kinds.r) κs) where
-  pub step_determined : step-reads.Post κs a one s → step-reads.Post κs a other t → outcome one s.1.0.now s.1.1.0.now s.1.1.1.0.now ≡ outcome other t.1.0.now t.1.1.0.now t.1.1.1.0.now
+  pub step_determined : step-reads.Post κs a one s → step-reads.Post κs a other t
+      → outcome one s.1.0.now s.1.1.0.now s.1.1.1.0.now ≡ outcome other t.1.0.now t.1.1.0.now t.1.1.1.0.now
   step_determined p q = one-outcome Outcome _ _ _ p.1 q.1
 
 module _ (κs : Lfts 1) (a : ArgsD poke.signature κs) (one other : Called) (s t : AtExit (ended_of 1 poke-kinds.ps poke-kinds.r) κs) where
@@ -71,7 +73,8 @@ module _ (κs : Lfts 1) (a : ArgsD show.signature κs) (one other : Called) (s t
   show_determined p q = one-outcome Called _ _ _ p.1 q.1
 
 module _ (κs : Lfts 3) (a : ArgsD step-core.signature κs) (one other : Result MicroStep Refusal) (s t : AtExit (ended_of 3 step-core-kinds.ps step-core-kinds.r) κs) where
-  pub step_core_determined : step-core-reads.Post κs a one s → step-core-reads.Post κs a other t → step_core_outcome one s.1.1.0.now s.1.1.1.0.now s.1.1.1.1.0.now ≡ step_core_outcome other t.1.1.0.now t.1.1.1.0.now t.1.1.1.1.0.now
+  pub step_core_determined : step-core-reads.Post κs a one s → step-core-reads.Post κs a other t
+      → step_core_outcome one s.1.1.0.now s.1.1.1.0.now s.1.1.1.1.0.now ≡ step_core_outcome other t.1.1.0.now t.1.1.1.0.now t.1.1.1.1.0.now
   step_core_determined p q = one-outcome StepCoreOutcome _ _ _ p q
 
 module _ (κs : Lfts 0) (a : ArgsD give-core.signature κs) (one other : Result Core Refusal) (s t : AtExit (ended_of 0 give-core-kinds.ps give-core-kinds.r) κs) where

@@ -6,6 +6,8 @@ use lib.Bits.{bit_and, and_step, and_self}
 use lib.Count.{ones, ones_in}
 use Rattle.std.specs.Int.{is_power_of_two}
 use Rattle.std.proofs.lemmas.Nat.{ones_cat, zero_from_ones}
+use Rattle.std.proofs.Math.Pow.{pow_mono}
+use Rattle.rules.specs.Basics.{any_below}
 use Rattle.rules.specs.Sizes.{entries_fit}
 use Rattle.rules.proofs.Bools.{same}
 use Rattle.rules.proofs.Powers.{entries_fit_lem}
@@ -65,7 +67,13 @@ few_entries (suc e) l =
     let fit = entries_fit_lem (suc e) e (omega arith) (omega arith) in
     rw below at alone ∙ rw (lt-ltb e 4096 (omega arith)) at fit
 
+-- a test that holds of no number below n
+none_below : (n : ℕ) (test : ℕ → Bool) → ((k : ℕ) → k < n → test k ≡ false) → any_below n test ≡ false
+none_below zero test each = refl
+none_below (suc n) test each = rw (none_below n test (λ k l. each k (omega arith)), each n (omega arith))
+
 pub many_entries : (e : ℕ) → 4096 < e → entries_fit e ≡ false
 unfolding entries_fit
 many_entries e l =
-    rw (ne_eqb e 1 (omega arith), ne_eqb e 2 (omega arith), ne_eqb e 4 (omega arith), ne_eqb e 8 (omega arith), ne_eqb e 16 (omega arith), ne_eqb e 32 (omega arith), ne_eqb e 64 (omega arith), ne_eqb e 128 (omega arith), ne_eqb e 256 (omega arith), ne_eqb e 512 (omega arith), ne_eqb e 1024 (omega arith), ne_eqb e 2048 (omega arith), ne_eqb e 4096 (omega arith))
+    none_below 13 (λ k. eqb e (2 ^ k))
+    (λ k s. let most : 2 ^ k ≤ 4096 = pow_mono {j = 12} (omega arith) in ne_eqb e (2 ^ k) (λ same. omega (arith, most, same)))
