@@ -13,7 +13,7 @@ use Rattle.rules.specs.Word.{read_word, write_word}
 use Rattle.rules.specs.Operations.{code_of, address_of, value_of, shape_of, kind_of, shape}
 use Rattle.rules.specs.Refusals.{number_in}
 use Rattle.rules.specs.Calls.{Outcome, poke_record}
-use Rattle.rules.specs.Laws.{Bytes}
+use Rattle.rules.specs.Bytes.{Bytes}
 use Rattle.rules.specs.History.{History, succeeds}
 use Rattle.rules.specs.Reference.{Whole, does, pokes, Reference, refer, access_of, write_done, sc_failed, finish_by, finish}
 use Rattle.rules.specs.Runs.{Call, give, step, poke, Fresh, act, after, records, given_to, last_of, at_access, in_order, entry_rule}

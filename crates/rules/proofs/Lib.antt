@@ -2,6 +2,7 @@ pub mod Bools
 pub mod Accepted
 pub mod Powers
 pub mod Numbers
+pub mod Widths
 pub mod Words
 pub mod Shapes
 pub mod Kept

@@ -1,5 +1,6 @@
 -- What holds of the rules of this crate, beside each call's own contract. The proofs are in proofs/Lawful.antt.
-use Rattle.std.specs.Prelude.{◌≡◌, ℕ, ◌+◌, ◌/◌, ◌%◌, ◌^◌, ◌<◌, ◌≤◌, Bool, true, false, List, [], Option, Some, None, length, replicate, ◌≢◌, slice_index, if◌then◌else◌}
+use Rattle.std.specs.Prelude.{◌≡◌, ℕ, ◌+◌, ◌/◌, ◌%◌, ◌^◌, ◌<◌, ◌≤◌, Bool, true, false, List, [], Option, Some, None, length, replicate, ◌≢◌, if◌then◌else◌}
+use Rattle.rules.specs.Bytes.{Bytes}
 use Rattle.rules.specs.Sizes.{entries_fit}
 use Rattle.rules.specs.Kinds.{writes_kind, links_kind, unlinks_kind}
 use Rattle.rules.specs.Entry.{nowhere}
@@ -20,10 +21,6 @@ use Rattle.rules.specs.declared.state.Called.{Called}
 pub record EntryLaws (entry : ℕ → GuestAddress → EntryNumber) : Type 0 where
   pub below : (entries : ℕ) (a : GuestAddress) → entries_fit entries ≡ true → (entry entries a).0 < entries
   pub one_word : (entries : ℕ) (a b : GuestAddress) → entries_fit entries ≡ true → a.0 / 4 ≡ b.0 / 4 → entry entries a ≡ entry entries b
-
--- lent bytes
-abbrev pub Bytes : List ℕ → Type 0
-Bytes s = (i : ℕ) → slice_index s i < 256
 
 -- Words of memory: a word written is read back, every other aligned word and the length stay, and bytes make a word of 32 bits and stay bytes.
 pub record WordLaws (read : List ℕ → GuestAddress → ℕ) (write : List ℕ → GuestAddress → ℕ → List ℕ) : Type 0 where

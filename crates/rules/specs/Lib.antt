@@ -2,6 +2,7 @@ pub mod Basics
 pub mod Sizes
 pub mod Entry
 pub mod Refusals
+pub mod Bytes
 pub mod Word
 pub mod Kinds
 pub mod Operations

@@ -6,6 +6,7 @@
 // (RULES 4.6), and proofs/ what follows from them alone: their laws, and what holds in every run. A public
 // function takes any input, and its contract is an equation to a definition of specs/.
 mod answers;
+mod bytes;
 mod cores;
 mod entry;
 mod kinds;
@@ -14,6 +15,7 @@ mod refusals;
 mod state;
 
 pub use answers::{Answer, Delivered, Record};
+pub use bytes::{four_bytes, read_four, read_two, read_word, two_bytes, write_word};
 pub use cores::{Core, MicroStep};
 pub use entry::{EntryNumber, GuestAddress, entry_of};
 pub use kinds::Kind;
