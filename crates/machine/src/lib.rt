@@ -8,7 +8,6 @@ mod address;
 mod calls;
 mod ranges;
 mod sizes;
-mod word;
 
 pub use calls::give::{give, give_core, give_in_place};
 pub use calls::poke::{poke, poke_word};

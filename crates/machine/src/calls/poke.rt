@@ -5,8 +5,8 @@ ghost use Rattle.rules.specs.Calls.{poke_outcome, word_refusal, poke_of};
 ghost use Rattle.machine.specs.PokeShow.{poke_word_outcome, poke_word_of};
 
 use crate::address::known_word_refusal;
-use crate::{ranges, word};
-use rules::{Answer, Called, GuestAddress, Machine, Record, Refusal};
+use crate::ranges;
+use rules::{Answer, Called, GuestAddress, Machine, Record, Refusal, write_word};
 
 // Of a machine that is known to be in its ranges: the write, and the record that it makes.
 #[tactic(auto, unfolding(crate::specs::PokeShow::poke_word_of), using(crate::proofs::PokingShowing::word_reached))]
@@ -19,7 +19,7 @@ pub fn poke_word(
     ensures { poke_word_outcome result memory.new ≡ poke_word_of bytes memory.old address value }
 {
     known_word_refusal(bytes, memory.len(), address)?;
-    word::write_word(memory, address, value);
+    write_word(memory, address, value);
     Ok(Record::of_poke(address, value))
 }
 

@@ -5,8 +5,8 @@ ghost use Rattle.rules.specs.Calls.{word_refusal, show_of};
 ghost use Rattle.machine.specs.PokeShow.{show_word_of};
 
 use crate::address::known_word_refusal;
-use crate::{ranges, word};
-use rules::{Answer, Called, GuestAddress, Machine, Refusal};
+use crate::ranges;
+use rules::{Answer, Called, GuestAddress, Machine, Refusal, read_word};
 
 // Of a machine that is known to be in its ranges.
 #[tactic(auto, unfolding(crate::specs::PokeShow::show_word_of), using(crate::proofs::PokingShowing::word_reached))]
@@ -14,7 +14,7 @@ pub fn show_word(bytes: usize, memory: &[u8], address: GuestAddress) -> Result<u
     ensures { result ≡ show_word_of bytes memory.now address }
 {
     known_word_refusal(bytes, memory.len(), address)?;
-    Ok(word::read_word(memory, address))
+    Ok(read_word(memory, address))
 }
 
 #[tactic(auto, unfolding(rules::specs::Calls::show_of, rules::specs::Calls::word_refusal))]

@@ -7,8 +7,8 @@ ghost use Rattle.rules.specs.Calls.{outcome, step_refusal, step_of};
 ghost use Rattle.machine.specs.Step.{entry_for, known_step_refusal, step_core_outcome, step_core_of, called_at, refused_step};
 
 use crate::sizes::Sizes;
-use crate::{ranges, word};
-use rules::{Answer, Called, Core, EntryNumber, Machine, MicroStep, Record, Refusal, Shape, entry_of};
+use crate::ranges;
+use rules::{Answer, Called, Core, EntryNumber, Machine, MicroStep, Record, Refusal, Shape, entry_of, read_word, write_word};
 
 // What a step hands back that leaves the machine with its caller.
 #[derive(Clone, Copy, PartialEq, Eq, Debug)]
@@ -90,12 +90,12 @@ pub fn step_core(
 {
     let e = entry_of(sizes.entries, c.address);
     known_step_refusal(sizes, c, e, memory.len(), owners, holders, core)?;
-    let word = word::read_word(memory, c.address);
+    let word = read_word(memory, c.address);
     let did = c.micro_step(core, owners[e.0], holders[e.0], word);
     owners[e.0] = did.owner;
     holders[e.0] = did.holder;
     if did.writes {
-        word::write_word(memory, c.address, c.value);
+        write_word(memory, c.address, c.value);
     }
     Ok(did)
 }
