@@ -2,7 +2,7 @@
 ghost use Rattle.std.specs.Prelude.{◌<◌};
 
 use crate::Blocks;
-use archive::{Put, Writer, Written};
+use archive::{Put, Writer, WriterCalled};
 use machine::{GuestAddress, Record, number_of};
 use std::io;
 
@@ -26,7 +26,7 @@ fn sample(i: u32) -> Record
 }
 
 // Says what a call of the writer answers; the writer that it leaves goes on.
-fn say_written(rt: &HostRuntime, call: &str, done: Written) -> io::Result<Writer> {
+fn say_written(rt: &HostRuntime, call: &str, done: WriterCalled) -> io::Result<Writer> {
     let number = number_of(&done.answer);
     let word = match done.answer {
         Ok(Put::Nothing) => "nothing",

@@ -2,7 +2,7 @@
 use Rattle.std.specs.Prelude.{ℕ, Bool, List, Option, Result, Ok}
 use Rattle.archive.specs.Records.{record_in}
 use Rattle.archive.specs.Reader.{checked_of, read_of}
-use Rattle.archive.specs.Whole.{whole_of, sought_of}
+use Rattle.archive.specs.Archive.{whole_of, sought_of}
 use Rattle.archive.specs.Writer.{WriteOutcome, new_writer, add_of, close_of}
 use Rattle.rules.specs.declared.refusals.Refusal.{Refusal}
 use Rattle.archive.specs.declared.answers.Put.TheVariants as put
@@ -21,7 +21,7 @@ abbrev pub write_call_outcome : ℕ → Writer → List ℕ → WriteCallOutcome
 write_call_outcome answer w block = record { all = call_outcome answer w; block = block }
 
 abbrev pub of_write : WriteOutcome → WriteCallOutcome
-of_write o = write_call_outcome (packed_wrote o.written.answer) o.written.writer o.block
+of_write o = write_call_outcome (packed_wrote o.called.answer) o.called.writer o.block
 
 -- what a reading call leaves: the answer, and the record's bytes
 abbrev pub of_read : Result (Option Numbered) Refusal → CallOutcome (List ℕ)

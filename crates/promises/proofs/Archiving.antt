@@ -34,6 +34,7 @@ use Rattle.rules.proofs.Lawful.{refusal_laws, range_laws}
 use Rattle.rules.proofs.Invariant.{run_inv}
 use Rattle.archive.specs.Records.{kind_good, address_good}
 use Rattle.archive.specs.Promises.{GoodRecord, AllGood}
+use Rattle.archive.specs.declared.records.KindRule.TheVariants.{Writing}
 use Rattle.archive.proofs.Runs.{every_list_is_archived}
 use Rattle.promises.specs.Archived.{WordsGiven, RecordsAreGood, RunsAreArchived}
 
@@ -73,40 +74,40 @@ kinds_made operation passed h = go (eqb operation 1) (eqb operation 2) (eqb oper
     go false false false true false h = refl
     go false false false false p h = absurd (false≢true h)
 
-good_access : (c : ℕ) (o : Operation) (passed : Bool) (v : ℕ) → c < 8 → address_good (address_of o).0 ≡ true → v < 2 ^ 32 → GoodRecord (access_of c o passed v)
+good_access : (c : ℕ) (o : Operation) (passed : Bool) (v : ℕ) → c < 8 → address_good (address_of o).0 ≡ true → v < 2 ^ 32 → GoodRecord Writing (access_of c o passed v)
 unfolding kind_good
 good_access c o passed v small address value =
     let k = and₂ (leb 1 (kind_of (code_of o) passed)) (leb (kind_of (code_of o) passed) 5) (kinds_made (code_of o) passed (ap is_some (shape_given o))) in
     record { good = rw (k.0, k.1, le-leb c 7 (omega arith), address); value = value }
 
-good_poke : (a : GuestAddress) (v : ℕ) → address_good a.0 ≡ true → v < 2 ^ 32 → GoodRecord (poke_record a v)
+good_poke : (a : GuestAddress) (v : ℕ) → address_good a.0 ≡ true → v < 2 ^ 32 → GoodRecord Writing (poke_record a v)
 unfolding kind_good
 good_poke a v address value = record { good = rw address; value = value }
 
 -- the reference's history is good, and its memory is bytes
 module _ (entry : GuestAddress → EntryNumber) where
   module _ (ref : Reference) (c : ℕ) (o : Operation) (bytes : Bytes ref.memory) (g : (c < 8) × GoodOperation o) where
-    wrote : (passed : Bool) → GoodRecord (access_of c o passed (value_of o)) × Bytes (write_word ref.memory (address_of o) (value_of o))
+    wrote : (passed : Bool) → GoodRecord Writing (access_of c o passed (value_of o)) × Bytes (write_word ref.memory (address_of o) (value_of o))
     wrote passed = (good_access c o passed (value_of o) g.0 g.1.address g.1.value, word_laws.bytes_stay ref.memory (address_of o) (value_of o) bytes)
 
-    read : GoodRecord (access_of c o false (read_word ref.memory (address_of o))) × Bytes ref.memory
+    read : GoodRecord Writing (access_of c o false (read_word ref.memory (address_of o))) × Bytes ref.memory
     read = (good_access c o false (read_word ref.memory (address_of o)) g.0 g.1.address (word_laws.a_word ref.memory (address_of o) bytes), bytes)
 
-    finish_good : GoodRecord (finish entry ref c o).access × Bytes (finish entry ref c o).memory
+    finish_good : GoodRecord Writing (finish entry ref c o).access × Bytes (finish entry ref c o).memory
     unfolding finish
     finish_good = go (shape o)
       where
-        sc : (t : Bool) → GoodRecord (if t then write_done ref c o true (Answered.Sc 0) else sc_failed ref c o).access × Bytes (if t then write_done ref c o true (Answered.Sc 0) else sc_failed ref c o).memory
+        sc : (t : Bool) → GoodRecord Writing (if t then write_done ref c o true (Answered.Sc 0) else sc_failed ref c o).access × Bytes (if t then write_done ref c o true (Answered.Sc 0) else sc_failed ref c o).memory
         sc true = wrote true
         sc false = (good_access c o false (value_of o) g.0 g.1.address g.1.value, bytes)
 
-        go : (s : Shape) → GoodRecord (finish_by s entry ref c o).access × Bytes (finish_by s entry ref c o).memory
+        go : (s : Shape) → GoodRecord Writing (finish_by s entry ref c o).access × Bytes (finish_by s entry ref c o).memory
         go Load = read
         go (Locks Ll) = read
         go (Locks Store) = wrote false
         go (Locks Sc) = sc (succeeds entry c (address_of o) ref.history)
 
-  refer_good : (zeros : List ℕ) → Bytes zeros → (ws : List Whole) → GoodWholes ws → AllGood (refer entry zeros ws).history × Bytes (refer entry zeros ws).memory
+  refer_good : (zeros : List ℕ) → Bytes zeros → (ws : List Whole) → GoodWholes ws → AllGood Writing (refer entry zeros ws).history × Bytes (refer entry zeros ws).memory
   unfolding refer
   refer_good zeros bytes [] g = (tt, bytes)
   refer_good zeros bytes (does c o ∷ ws) g =
@@ -207,10 +208,10 @@ fresh_bytes fresh f =
 
 pub records_are_good : RecordsAreGood
 records_are_good fresh f calls w =
-    subst AllGood (sym (run_inv fresh f calls).history) (refer_good (entry_rule fresh) fresh.memory (fresh_bytes fresh f) (in_order fresh calls) (run_good fresh calls w)).0
+    subst (AllGood Writing) (sym (run_inv fresh f calls).history) (refer_good (entry_rule fresh) fresh.memory (fresh_bytes fresh f) (in_order fresh calls) (run_good fresh calls w)).0
 
 -- the same in access order
-reverse_good : (h k : History) → AllGood h → AllGood k → AllGood (reverse_aux h k)
+reverse_good : (h k : History) → AllGood Writing h → AllGood Writing k → AllGood Writing (reverse_aux h k)
 reverse_good [] k g e = e
 reverse_good (r ∷ h) k g e = reverse_good h (r ∷ k) g.1 (g.0, e)
 

@@ -4,7 +4,8 @@ use Rattle.rules.specs.Operations.{value_of}
 use Rattle.rules.specs.Calls.{Outcome}
 use Rattle.rules.specs.Runs.{Call, give, step, poke, Fresh, records}
 use Rattle.archive.specs.Promises.{AllGood, most_records, run, fresh_run, adds, Close}
-use Rattle.archive.specs.Whole.{encode_archive}
+use Rattle.archive.specs.Archive.{encode_archive}
+use Rattle.archive.specs.declared.records.KindRule.TheVariants.{Writing}
 
 -- the values given and poked are words of 32 bits, as the code's are
 abbrev pub WordsGiven : List Call → Type 0
@@ -14,7 +15,7 @@ WordsGiven (step core ∷ calls) = WordsGiven calls
 WordsGiven (poke a value ∷ calls) = (value < 2 ^ 32) × WordsGiven calls
 
 abbrev pub RecordsAreGood : Type 0
-RecordsAreGood = (fresh : Outcome) → Fresh fresh → (calls : List Call) → WordsGiven calls → AllGood (records fresh calls)
+RecordsAreGood = (fresh : Outcome) → Fresh fresh → (calls : List Call) → WordsGiven calls → AllGood Writing (records fresh calls)
 
 -- added in access order, with any block of 512 bytes lent, and closed, they are put out as their archive
 abbrev pub RunsAreArchived : Type 0
