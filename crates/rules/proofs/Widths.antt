@@ -1,6 +1,8 @@
 -- The laws of numbers in bytes, once over the width; and the bytes that the code reads and writes at once.
 -- Assumes nothing.
-use Rattle.std.proofs.Common.{◌≡◌, ℕ, zero, suc, ◌+◌, ◌-◌, ◌*◌, ◌/◌, ◌%◌, ◌^◌, ◌<◌, ◌≤◌, ◌⊎◌, inl, inr, Bool, true, false, eqb, ltb, List, ◌∷◌, ◌++◌, length, get_or, set, take, drop, refl, sym, ap, ap₂, ◌∙◌, arith, length-set, get_or-set_other, get_or-set_same, ltb-false, ltb-true, eqb-true, drop-cons}
+use Rattle.std.proofs.Common.{◌≡◌, ◌≢◌, ℕ, zero, suc, ◌+◌, ◌-◌, ◌*◌, ◌/◌, ◌%◌, ◌^◌, ◌<◌, ◌≤◌, ◌⊎◌, inl, inr, Bool, true, false, eqb, ltb}
+use Rattle.std.proofs.Common.{List, ◌∷◌, ◌++◌, length, get_or, set, take, drop, length-set, get_or-set_other, get_or-set_same, drop-cons}
+use Rattle.std.proofs.Common.{refl, sym, ap, ap₂, ◌∙◌, arith, ltb-false, ltb-true, eqb-true}
 use native.Mathlib.Nat.{pow-succ'}
 use native.Mathlib.Numerals.{add-one}
 use lib.Seq.{set_out, sets, sets-eq, paste, take_all, get_or-drop, get_or-take}
@@ -10,31 +12,36 @@ use borrow.Rule.Slice.PartMut.{put_mid}
 use Rattle.std.proofs.lemmas.Slice.{put_mid-paste}
 use Rattle.rules.specs.Bytes.{Bytes, part, read_bytes, write_bytes, bytes_of, EachWidth}
 
-pub length-written : (w : ℕ) (s : List ℕ) (at n : ℕ) → length (write_bytes w s at n) ≡ length s
+length-written : (w : ℕ) (s : List ℕ) (at n : ℕ) → length (write_bytes w s at n) ≡ length s
 unfolding write_bytes
 length-written zero s at n = refl
 length-written (suc w) s at n = length-written w (set s at (n % 256)) (at + 1) (n / 256) ∙ length-set s at (n % 256)
 
 -- a byte outside of what is written stays
-pub below_stays : (w : ℕ) (s : List ℕ) (at n i : ℕ) → i < at → get_or (write_bytes w s at n) i 0 ≡ get_or s i 0
+outside_stays : (w : ℕ) (s : List ℕ) (at n i : ℕ) → (i < at) ⊎ (at + w ≤ i) → get_or (write_bytes w s at n) i 0 ≡ get_or s i 0
 unfolding write_bytes
-below_stays zero s at n i l = refl
-below_stays (suc w) s at n i l = below_stays w (set s at (n % 256)) (at + 1) (n / 256) i (omega arith) ∙ get_or-set_other s at i (n % 256) 0 (λ e. omega arith)
+outside_stays zero s at n i out = refl
+outside_stays (suc w) s at n i out = outside_stays w (set s at (n % 256)) (at + 1) (n / 256) i (of_the_rest out) ∙ get_or-set_other s at i (n % 256) 0 (apart out)
+  where
+    of_the_rest : (i < at) ⊎ (at + suc w ≤ i) → (i < at + 1) ⊎ (at + 1 + w ≤ i)
+    of_the_rest (inl l) = inl (omega arith)
+    of_the_rest (inr l) = inr (omega arith)
 
-pub above_stays : (w : ℕ) (s : List ℕ) (at n i : ℕ) → at + w ≤ i → get_or (write_bytes w s at n) i 0 ≡ get_or s i 0
-unfolding write_bytes
-above_stays zero s at n i l = refl
-above_stays (suc w) s at n i l = above_stays w (set s at (n % 256)) (at + 1) (n / 256) i (omega arith) ∙ get_or-set_other s at i (n % 256) 0 (λ e. omega arith)
+    apart : (i < at) ⊎ (at + suc w ≤ i) → i ≢ at
+    apart (inl l) e = omega arith
+    apart (inr l) e = omega arith
 
-pub read_written : (w : ℕ) (s : List ℕ) (at n : ℕ) → n < 256 ^ w → at + w ≤ length s → read_bytes w (write_bytes w s at n) at ≡ n
+read_written : (w : ℕ) (s : List ℕ) (at n : ℕ) → n < 256 ^ w → at + w ≤ length s → read_bytes w (write_bytes w s at n) at ≡ n
 unfolding read_bytes write_bytes
 read_written zero s at n l r = omega arith
 read_written (suc w) s at n l r =
-    let low : get_or (write_bytes w (set s at (n % 256)) (at + 1) (n / 256)) at 0 ≡ n % 256
-    = below_stays w (set s at (n % 256)) (at + 1) (n / 256) at (omega arith) ∙ get_or-set_same s at (n % 256) 0 (omega arith) in
+    let one : List ℕ = set s at (n % 256) in
+    let all : List ℕ = write_bytes w one (at + 1) (n / 256) in
+    let low : get_or all at 0 ≡ n % 256
+    = outside_stays w one (at + 1) (n / 256) at (inl (omega arith)) ∙ get_or-set_same s at (n % 256) 0 (omega arith) in
     let fits : n < 256 * 256 ^ w = rw (pow-succ' 256 w) at l in
-    let inside : at + 1 + w ≤ length (set s at (n % 256)) = rw length-set (omega arith) in
-    let high : read_bytes w (write_bytes w (set s at (n % 256)) (at + 1) (n / 256)) (at + 1) ≡ n / 256 = read_written w (set s at (n % 256)) (at + 1) (n / 256) (omega arith) inside in
+    let inside : at + 1 + w ≤ length one = rw length-set (omega arith) in
+    let high : read_bytes w all (at + 1) ≡ n / 256 = read_written w one (at + 1) (n / 256) (omega arith) inside in
     omega arith
 
 -- what is read goes by its bytes alone: by as many from another place of other bytes
@@ -77,12 +84,12 @@ byte_set s at x small bytes i = go (eqb i at) refl (ltb at (length s)) refl
     go true e false l = rw (set_out s at x (ltb-false at (length s) l)) (bytes i)
     go false e u l = rw (get_or-set_other s at i x 0 (eqb-false i at e)) (bytes i)
 
-pub bytes_written : (w : ℕ) (s : List ℕ) (at n : ℕ) → Bytes s → Bytes (write_bytes w s at n)
+bytes_written : (w : ℕ) (s : List ℕ) (at n : ℕ) → Bytes s → Bytes (write_bytes w s at n)
 unfolding write_bytes
 bytes_written zero s at n bytes = bytes
 bytes_written (suc w) s at n bytes = bytes_written w (set s at (n % 256)) (at + 1) (n / 256) (byte_set s at (n % 256) (omega arith) bytes)
 
-pub read_fits : (w : ℕ) (s : List ℕ) (at : ℕ) → Bytes s → read_bytes w s at < 256 ^ w
+read_fits : (w : ℕ) (s : List ℕ) (at : ℕ) → Bytes s → read_bytes w s at < 256 ^ w
 unfolding read_bytes
 read_fits zero s at bytes = omega arith
 read_fits (suc w) s at bytes =
@@ -91,7 +98,7 @@ read_fits (suc w) s at bytes =
     rw (pow-succ' 256 w) (omega arith)
 
 -- the bytes of a number, and the number
-pub number_decoded : (w n : ℕ) → n < 256 ^ w → read_bytes w (bytes_of w n) 0 ≡ n
+number_decoded : (w n : ℕ) → n < 256 ^ w → read_bytes w (bytes_of w n) 0 ≡ n
 unfolding read_bytes
 number_decoded zero n l = omega arith
 number_decoded (suc w) n l =
@@ -99,7 +106,7 @@ number_decoded (suc w) n l =
     let rest : read_bytes w (bytes_of (suc w) n) 1 ≡ n / 256 = sym (read_dropped w (bytes_of (suc w) n) 1) ∙ number_decoded w (n / 256) (omega arith) in
     omega arith
 
-pub encoded_there : (w : ℕ) (s : List ℕ) (at : ℕ) → Bytes s → at + w ≤ length s → bytes_of w (read_bytes w s at) ≡ part at w s
+encoded_there : (w : ℕ) (s : List ℕ) (at : ℕ) → Bytes s → at + w ≤ length s → bytes_of w (read_bytes w s at) ≡ part at w s
 unfolding read_bytes
 encoded_there zero s at bytes l = refl
 encoded_there (suc w) s at bytes l =
@@ -113,7 +120,7 @@ encoded_there (suc w) s at bytes l =
     ∙ sym (ap (take (suc w)) (drop-cons s at 0 (omega arith)) ∙ ap (λ (k : ℕ). x ∷ take w (drop k s)) e)
 
 -- what is written is the number's bytes, one after another, and so they are pasted
-pub length-bytes : (w n : ℕ) → length (bytes_of w n) ≡ w
+length-bytes : (w n : ℕ) → length (bytes_of w n) ≡ w
 length-bytes zero n = refl
 length-bytes (suc w) n = ap suc (length-bytes w (n / 256))
 
@@ -122,7 +129,7 @@ unfolding write_bytes
 written_sets zero s at n = refl
 written_sets (suc w) s at n = written_sets w (set s at (n % 256)) (at + 1) (n / 256) ∙ ap (λ (k : ℕ). sets (set s at (n % 256)) k (bytes_of w (n / 256))) (add-one at)
 
-pub written_pasted : (w : ℕ) (s : List ℕ) (at n : ℕ) → at + w ≤ length s → write_bytes w s at n ≡ paste s at (bytes_of w n) w
+written_pasted : (w : ℕ) (s : List ℕ) (at n : ℕ) → at + w ≤ length s → write_bytes w s at n ≡ paste s at (bytes_of w n) w
 written_pasted w s at n l =
     let b : List ℕ = bytes_of w n in
     let e : length b ≡ w = length-bytes w n in
@@ -138,7 +145,7 @@ pub byte_laws : EachWidth
 byte_laws w =
     record {
       read_back = read_written w;
-      others_stay = λ s at n i. others s at n i;
+      others_stay = outside_stays w;
       length_stays = length-written w;
       a_number = read_fits w;
       bytes_stay = bytes_written w;
@@ -146,7 +153,3 @@ byte_laws w =
       decoded = number_decoded w;
       encoded = encoded_there w;
     }
-  where
-    others : (s : List ℕ) (at n i : ℕ) → (i < at) ⊎ (at + w ≤ i) → get_or (write_bytes w s at n) i 0 ≡ get_or s i 0
-    others s at n i (inl l) = below_stays w s at n i l
-    others s at n i (inr l) = above_stays w s at n i l

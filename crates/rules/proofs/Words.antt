@@ -1,18 +1,18 @@
 -- The laws of a word of memory.
 -- Assumes nothing.
-use Rattle.std.proofs.Common.{◌≡◌, ℕ, ◌+◌, ◌%◌, ◌<◌, Bool, true, false, ltb, ◌≢◌, List, get_or, refl, arith, ltb-false, ltb-true}
+use Rattle.std.proofs.Common.{inl, inr, ◌≡◌, ℕ, ◌+◌, ◌%◌, ◌<◌, Bool, true, false, ltb, ◌≢◌, List, get_or, refl, arith, ltb-false, ltb-true}
 use Rattle.rules.specs.Bytes.{read_bytes, write_bytes}
 use Rattle.rules.specs.Word.{read_word, write_word}
 use Rattle.rules.specs.Laws.{WordLaws}
-use Rattle.rules.proofs.Widths.{below_stays, above_stays, read_same, byte_laws}
+use Rattle.rules.proofs.Widths.{read_same, byte_laws}
 
 -- two aligned words that differ share no byte
 words_apart : (memory : List ℕ) (a b value : ℕ) → a % 4 ≡ 0 → b % 4 ≡ 0 → a ≢ b → read_bytes 4 (write_bytes 4 memory a value) b ≡ read_bytes 4 memory b
 words_apart memory a b value p q apart = read_same 4 (write_bytes 4 memory a value) memory b b (λ i l. same i l (ltb a b) refl)
   where
     same : (i : ℕ) → i < 4 → (t : Bool) → ltb a b ≡ t → get_or (write_bytes 4 memory a value) (b + i) 0 ≡ get_or memory (b + i) 0
-    same i l true e = let k = ltb-true a b e in above_stays 4 memory a value (b + i) (omega arith)
-    same i l false e = let k = ltb-false a b e in below_stays 4 memory a value (b + i) (omega arith)
+    same i l true e = let k = ltb-true a b e in (byte_laws 4).others_stay memory a value (b + i) (inr (omega arith))
+    same i l false e = let k = ltb-false a b e in (byte_laws 4).others_stay memory a value (b + i) (inl (omega arith))
 
 pub word_laws : WordLaws read_word write_word
 unfolding read_word write_word

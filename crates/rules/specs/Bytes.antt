@@ -1,4 +1,4 @@
--- Numbers in bytes, the lowest byte first, over the width, which is how many bytes a number takes. A place may be any: a byte that is not there is read as 0, and is not written.
+-- Numbers in bytes, the lowest byte first, over the width: how many bytes a number takes. A place may be any: a byte that is not there is read as 0 and not written.
 use Rattle.std.specs.Prelude.{◌≡◌, ℕ, zero, suc, ◌+◌, ◌*◌, ◌/◌, ◌%◌, ◌^◌, ◌<◌, ◌≤◌, ◌⊎◌, List, [], ◌∷◌, length, take, drop, slice_index, slice_set}
 use Rattle.std.proofs.Math.Seq.{paste}
 
@@ -25,7 +25,8 @@ abbrev pub bytes_of : ℕ → ℕ → List ℕ
 bytes_of zero n = []
 bytes_of (suc width) n = n % 256 ∷ bytes_of width (n / 256)
 
--- What is written is read back, every other byte and the length stay, and bytes make a number of their width and stay bytes. Written are the bytes of the number, and these and the number are read from each other.
+-- What is written is read back, every other byte and the length stay, and bytes make a number of their width and stay bytes.
+-- Written are the bytes of the number; it is read from them, and they are those that it was read from.
 pub record ByteLaws (width : ℕ) : Type 0 where
   pub read_back : (s : List ℕ) (at n : ℕ) → n < 256 ^ width → at + width ≤ length s → read_bytes width (write_bytes width s at n) at ≡ n
   pub others_stay : (s : List ℕ) (at n i : ℕ) → (i < at) ⊎ (at + width ≤ i) → slice_index (write_bytes width s at n) i ≡ slice_index s i
