@@ -10,6 +10,7 @@ use lib.ListN.{length, replicate, length-reverse}
 use lib.Dec.{eqb, leb}
 use borrow.Author.Tests.{eqb-true, eq-eqb, le-leb, lt-ltb}
 use Rattle.rules.specs.Word.{read_word, write_word}
+use Rattle.rules.specs.Kinds.{kind_at}
 use Rattle.rules.specs.Operations.{code_of, address_of, value_of, shape_of, kind_of, shape}
 use Rattle.rules.specs.Refusals.{number_in}
 use Rattle.rules.specs.Calls.{Outcome, poke_record}
@@ -26,7 +27,6 @@ use Rattle.rules.specs.declared.operations.Locking.TheVariants.{Ll, Store, Sc}
 use Rattle.rules.specs.declared.answers.Record.{Record}
 use Rattle.rules.proofs.Accepted.{Inside, sizes_fit_lem, core_small, give_accepted, step_accepted, word_accepted}
 use Rattle.rules.specs.declared.answers.Delivered.TheVariants as Answered
-use Rattle.rules.proofs.Bools.{and₂}
 use Rattle.rules.proofs.Shapes.{shape_given}
 use Rattle.rules.proofs.Numbers.{by_zero, not_refused, start_number, give_number, step_number, poke_number}
 use Rattle.rules.proofs.Words.{word_laws}
@@ -34,8 +34,8 @@ use Rattle.rules.proofs.Lawful.{refusal_laws, range_laws}
 use Rattle.rules.proofs.Invariant.{run_inv}
 use Rattle.archive.specs.Records.{kind_good, address_good}
 use Rattle.archive.specs.Promises.{GoodRecord, AllGood}
-use Rattle.archive.specs.declared.records.KindRule.TheVariants.{Writing}
-use Rattle.archive.proofs.Runs.{every_list_is_archived}
+use Rattle.archive.specs.declared.records.Side.TheVariants.{Writing}
+use Rattle.archive.proofs.Taken.{every_list_is_archived}
 use Rattle.promises.specs.Archived.{WordsGiven, RecordsAreGood, RunsAreArchived}
 
 -- an address that may stand in an archive
@@ -60,13 +60,13 @@ abbrev GoodWholes : List Whole → Type 0
 GoodWholes [] = Unit {0}
 GoodWholes (w ∷ ws) = GoodWhole w × GoodWholes ws
 
--- an operation makes records of a core's kinds
-kinds_made : (operation : ℕ) (passed : Bool) → is_some (shape_of operation) ≡ true → leb 1 (kind_of operation passed) && leb (kind_of operation passed) 5 ≡ true
-unfolding shape_of kind_of
-kinds_made operation passed h = go (eqb operation 1) (eqb operation 2) (eqb operation 3) (eqb operation 4) passed h
+-- an operation makes records of a core's kinds, which the writer takes
+kinds_made : (operation : ℕ) (passed : Bool) (c : ℕ) → is_some (shape_of operation) ≡ true → kind_good Writing c (kind_of operation passed) ≡ leb c 7
+unfolding shape_of kind_of kind_good kind_at
+kinds_made operation passed c h = go (eqb operation 1) (eqb operation 2) (eqb operation 3) (eqb operation 4) passed h
   where
     go : (load ll store sc p : Bool) → is_some (if load then Some Load else if ll then Some (Locks Ll) else if store then Some (Locks Store) else if sc then Some (Locks Sc) else None) ≡ true
-        → leb 1 (if load then 1 else if ll then 2 else if store then 3 else if sc then if p then 4 else 5 else 0) && leb (if load then 1 else if ll then 2 else if store then 3 else if sc then if p then 4 else 5 else 0) 5 ≡ true
+        → kind_good Writing c (if load then 1 else if ll then 2 else if store then 3 else if sc then if p then 4 else 5 else 0) ≡ leb c 7
     go true ll store sc p h = refl
     go false true store sc p h = refl
     go false false true sc p h = refl
@@ -75,13 +75,11 @@ kinds_made operation passed h = go (eqb operation 1) (eqb operation 2) (eqb oper
     go false false false false p h = absurd (false≢true h)
 
 good_access : (c : ℕ) (o : Operation) (passed : Bool) (v : ℕ) → c < 8 → address_good (address_of o).0 ≡ true → v < 2 ^ 32 → GoodRecord Writing (access_of c o passed v)
-unfolding kind_good
 good_access c o passed v small address value =
-    let k = and₂ (leb 1 (kind_of (code_of o) passed)) (leb (kind_of (code_of o) passed) 5) (kinds_made (code_of o) passed (ap is_some (shape_given o))) in
-    record { good = rw (k.0, k.1, le-leb c 7 (omega arith), address); value = value }
+    record { good = rw (kinds_made (code_of o) passed c (ap is_some (shape_given o)), le-leb c 7 (omega arith), address); value = value }
 
 good_poke : (a : GuestAddress) (v : ℕ) → address_good a.0 ≡ true → v < 2 ^ 32 → GoodRecord Writing (poke_record a v)
-unfolding kind_good
+unfolding kind_good kind_at
 good_poke a v address value = record { good = rw address; value = value }
 
 -- the reference's history is good, and its memory is bytes

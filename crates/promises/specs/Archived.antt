@@ -5,7 +5,7 @@ use Rattle.rules.specs.Calls.{Outcome}
 use Rattle.rules.specs.Runs.{Call, give, step, poke, Fresh, records}
 use Rattle.archive.specs.Promises.{AllGood, most_records, run, fresh_run, adds, Close}
 use Rattle.archive.specs.Archive.{encode_archive}
-use Rattle.archive.specs.declared.records.KindRule.TheVariants.{Writing}
+use Rattle.archive.specs.declared.records.Side.TheVariants.{Writing}
 
 -- the values given and poked are words of 32 bits, as the code's are
 abbrev pub WordsGiven : List Call → Type 0
