@@ -2,7 +2,7 @@
 //! are swapped, dropped, doubled and cut.
 
 use super::shrink::shortest;
-use super::{caught, Counts, Difference};
+use super::{caught, hundred, Counts, Difference};
 use crate::archive::{
     block_refusal, place_of, seal, sought, whole, Read, Reader, Sought, Whole, Writer, Wrote, BLOCK,
     BLOCK_LIMIT, PLACE, PLACES,
@@ -59,7 +59,7 @@ impl Archivist for super::deeds::Second {
 
 /// The block of a number and its records, put together from the rules' layout with plain sums: what
 /// any accepted block has to be.
-fn encoded(number: u32, records: &[Record]) -> [u8; BLOCK] {
+pub fn encoded(number: u32, records: &[Record]) -> [u8; BLOCK] {
     let mut bytes = b"LLRN".to_vec();
     bytes.extend(number.to_le_bytes());
     bytes.extend((records.len() as u32).to_le_bytes());
@@ -79,7 +79,7 @@ fn encoded(number: u32, records: &[Record]) -> [u8; BLOCK] {
 
 /// What one does to a writer, one deed after another.
 #[derive(Clone, Copy, Debug)]
-enum Deed {
+pub enum Deed {
     Add { record: [u8; PLACE], lent: usize },
     Close { lent: usize },
     SetCount(u32),
@@ -88,7 +88,7 @@ enum Deed {
     SetByte(usize, u8),
 }
 
-fn perform<A: Archivist>(writer: &mut Writer, block: &mut Vec<u8>, deed: &Deed) -> Option<Wrote> {
+pub fn perform<A: Archivist>(writer: &mut Writer, block: &mut Vec<u8>, deed: &Deed) -> Option<Wrote> {
     match *deed {
         Deed::Add { record, lent } => {
             *block = vec![0xa5; lent];
@@ -138,7 +138,7 @@ fn writers_differ<A: Archivist, B: Archivist>(deeds: &[Deed]) -> Option<String> 
     None
 }
 
-fn compare_writers<A: Archivist, B: Archivist>(
+pub fn compare_writers<A: Archivist, B: Archivist>(
     deeds: &[Deed],
     counts: &mut Counts,
 ) -> Result<(), Difference> {
@@ -488,6 +488,7 @@ pub fn compare<A: Archivist, B: Archivist>(
     times: usize,
     counts: &mut Counts,
 ) -> Result<(), Difference> {
+    hundred::compare::<A, B>(counts)?;
     for number in 0..200 * times {
         round_trip::<A, B>(&mut Random::part(seed, "round trip", number as u64), counts)?;
     }

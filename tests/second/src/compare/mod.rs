@@ -3,6 +3,7 @@
 
 pub mod archives;
 pub mod deeds;
+mod hundred;
 mod invented;
 mod programs;
 mod reference;
