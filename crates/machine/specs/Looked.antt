@@ -1,4 +1,4 @@
--- No rule of the document: what the code looks at in a core, with a test of several fields at once. Where the sizes fit it asks of the eight cores what the page Ranges.antt of `rules` asks (`no_sizes`, `a_core_out` and `all_looked` in proofs/Looking.antt), and no public contract cites it.
+-- No rule: what the code looks at in a core, with a test of several fields at once. Where the sizes fit it asks of the eight cores what the page Ranges.antt of `rules` asks (`no_sizes`, `a_core_out` and `all_looked` in proofs/Looking.antt), and no public contract cites it.
 use Rattle.std.specs.Prelude.{ℕ, ◌+◌, ◌*◌, ◌/◌, ◌%◌, ◌^◌, Bool, ◌&&◌, Option, Some, None, ◌==◌, nat_le, nat_lt, if◌then◌else◌}
 use Rattle.rules.specs.Operations.{shape_of}
 use Rattle.rules.specs.Ranges.{core_at}
@@ -28,11 +28,11 @@ stage_of place next = 8 * place + next
 abbrev pub idle_stages : ℕ
 idle_stages = 1
 
--- a busy core's: load 1; ll, store and sc 1 to 4
+-- a busy core's: load 1; ll, store and sc 1 to 4 (RULES 4.4, 4.5)
 abbrev pub busy_stages : ℕ
 busy_stages = 129354301952
 
--- sc 3 and 4, where its step 2 passed
+-- sc 3 and 4, where its step 2 passed (RULES 4.27)
 abbrev pub passed_stages : ℕ
 passed_stages = 103079215104
 
@@ -47,7 +47,7 @@ can_be_at busy passed stage = stages_of busy passed / 2 ^ stage % 2 == 1
 abbrev pub spare : Bool → ℕ → ℕ
 spare used field = if used then 0 else field
 
--- "an unused field not 0": a value is in use from store 1 on, and what ll read at ll 4
+-- RULES 6.20: "a field that is not in use (4.23) and not 0": a value is in use from store 1 on (RULES 4.25), and what ll read at ll 4 (RULES 4.26)
 unfoldable pub spare_are0 : Core → ℕ → Bool
 spare_are0 c stage = spare (nat_le 25 stage) c.value == 0 && spare (stage == 20) c.read == 0
 
@@ -55,7 +55,7 @@ spare_are0 c stage = spare (nat_le 25 stage) c.value == 0 && spare (stage == 20)
 abbrev pub word_at : ℕ → ℕ
 word_at a = a / 4 + a % 4 * 1073741824
 
--- the words that an address in use can be at: in a machine's memory, and at or above the count none
+-- the words that an address in use can be at: in a machine's memory (RULES 6.22), and at or above the count none (RULES 6.23)
 abbrev pub words_for : ℕ → ℕ → ℕ → ℕ
 words_for count bytes i = if nat_lt i count then bytes / 4 else 0
 
