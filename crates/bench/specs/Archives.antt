@@ -1,4 +1,5 @@
--- What the calls on the writer where it stands, on a block and on a whole archive answer and leave: what the archive's own calls do, packed.
+-- RULES 13, the library for a bench: the calls on the writer where it stands, on a block and on a whole archive: what the archive's own calls do, packed.
+-- RULES 13.2: "Each call does what the call of these rules does, on the struct where it stands, and is refused as that one is, in the order of 6.6"
 use Rattle.std.specs.Prelude.{ℕ, Bool, List, Option, Result, Ok}
 use Rattle.archive.specs.Records.{record_in}
 use Rattle.archive.specs.Reader.{checked_of, read_of}
@@ -34,6 +35,7 @@ of_sought r = call_outcome (packed_sought r) (read_bytes r)
 abbrev pub new_call : CallOutcome Writer
 new_call = call_outcome (packed_wrote (Ok put.Nothing)) new_writer
 
+-- RULES 13.8: "`malthobre_writer_add` looks at a record's bytes 0, 1 and 4 to 11 only."
 abbrev pub add_call : Writer → List ℕ → List ℕ → WriteCallOutcome
 add_call w block made = of_write (add_of w block (record_in made))
 

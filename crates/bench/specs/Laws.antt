@@ -1,4 +1,4 @@
--- What a bench reads out of a packed answer, by the header's three macros: the number and the value that document 01 gives it.
+-- RULES 13, the library for a bench: what a bench reads out of a packed answer, by two of the header's macros: the number (RULES 6.1) and the value (RULES 4.18, 4.19, 4.34) that the rules give it.
 use Rattle.std.specs.Prelude.{ℕ, ◌%◌, ◌/◌, ◌≡◌, List, [], ◌∷◌, Result}
 use Rattle.rules.specs.Answers.{values_of}
 use Rattle.rules.specs.Refusals.{number_in}
@@ -6,9 +6,11 @@ use Rattle.rules.specs.declared.answers.Answer.{Answer}
 use Rattle.rules.specs.declared.refusals.Refusal.{Refusal}
 use Rattle.bench.specs.Packed.{packed}
 
+-- RULES 13.4: "bits 0 to 7 are the answer number"
 abbrev pub number_bits : ℕ → ℕ
 number_bits answer = answer % 256
 
+-- RULES 13.4: "bits 32 to 63 are the value, or 0 where it has none"
 abbrev pub value_bits : ℕ → ℕ
 value_bits answer = answer / 4294967296
 

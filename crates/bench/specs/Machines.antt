@@ -1,4 +1,5 @@
--- What the calls on the machine where it stands answer and leave: what the machine's own calls do, packed.
+-- RULES 13, the library for a bench: the calls on the machine where it stands: what the machine's own calls do, packed.
+-- RULES 13.2: "Each call does what the call of these rules does, on the struct where it stands, and is refused as that one is, in the order of 6.6"
 use Rattle.std.specs.Prelude.{ℕ, List, Option, Some, None}
 use Rattle.rules.specs.Calls.{Outcome, PokeOutcome, start_of, give_of, step_of, poke_of, show_of}
 use Rattle.rules.specs.Refusals.{refusal_number}
@@ -49,14 +50,16 @@ of_step o = record { all = of_called o.called; memory = o.memory; owners = o.own
 abbrev pub of_poke : PokeOutcome → PokeCallOutcome
 of_poke o = record { all = of_called o.called; memory = o.memory; made = handed_bytes o.called.made }
 
--- the calls; an operation's number that is none is refused as a script line that is not understood
+-- the calls. RULES 13.10: "A refused `malthobre_start` leaves a machine that is all zero (6.4)."
 abbrev pub start_call : ℕ → List ℕ → List ℕ → List ℕ → StartCallOutcome
 start_call count memory owners holders = of_start (start_of count memory owners holders)
 
+-- RULES 13.3: "`malthobre_give` takes an operation's number (4.30); one that is none of 1 to 4 is refused 9, before all else."
 abbrev pub give_asked : Machine → ℕ → Option Operation → CallOutcome Machine
 give_asked m core None = call_outcome (refusal_number NotUnderstood) m
 give_asked m core (Some o) = of_called (give_of m core o)
 
+-- RULES 13.3: "For a load and an ll the value is not looked at."
 abbrev pub give_call : Machine → ℕ → ℕ → ℕ → ℕ → CallOutcome Machine
 give_call m core code a value = give_asked m core (asked_of code (record { 0 = a }) value)
 

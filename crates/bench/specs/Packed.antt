@@ -1,4 +1,4 @@
--- What crosses to C: an answer as one number, a record as its 16 bytes, an operation as its number.
+-- RULES 13, the library for a bench: what crosses to C: an answer as one number, a record as its 16 bytes.
 use Rattle.std.specs.Prelude.{ℕ, ◌+◌, ◌*◌, ◌%◌, Option, Some, None, Result, Ok, Err, List, replicate, ◌==◌, if◌then◌else◌}
 use Rattle.rules.specs.Refusals.{refusal_number}
 use Rattle.rules.specs.declared.answers.Answer.{Answer}
@@ -15,11 +15,12 @@ use Rattle.archive.specs.declared.answers.Numbered.{Numbered}
 use Rattle.archive.specs.declared.answers.ArchiveRefusal.{ArchiveRefusal}
 use Rattle.archive.specs.declared.answers.ArchiveRefusal.TheVariants as archive
 
--- bits 0..7 the number, 8..15 which answer it is, 32..63 the value: of an answer that is no refusal, whose number is 0
+-- RULES 13.4: "An answer is one number of 64 bits: bits 0 to 7 are the answer number, bits 8 to 15 say which answer it is, bits 16 to 31 are 0, and bits 32 to 63 are the value, or 0 where it has none.": of an answer that is no refusal, whose number is 0
 abbrev pub word_and_value : ℕ → ℕ → ℕ
 word_and_value word value = 256 * word + 4294967296 * value
 
--- .. and of a refusal: its number, and beside it the index of the block that decided, in 32 bits
+-- RULES 13.5: "The number that says which answer it is, is 0 for a refusal"
+-- RULES 13.6: "A whole archive that is refused has, as its value, the index of the block that decided, and 0 where the length did. Counts and indexes are taken modulo 2^32."
 abbrev pub refused_at : ℕ → ℕ → ℕ
 refused_at number index = number + 4294967296 * (index % 4294967296)
 
@@ -27,13 +28,14 @@ abbrev pub packed_refusal : ArchiveRefusal → ℕ
 packed_refusal archive.Length = refusal_number BlockLength
 packed_refusal (archive.Block index refusal) = refused_at (refusal_number refusal) index
 
--- what a finished operation answers
+-- RULES 13.5, 5 to 8: what a finished operation answers
 abbrev pub packed_delivered : Delivered → ℕ
 packed_delivered (delivered.Load v) = word_and_value 5 v
 packed_delivered (delivered.Ll v) = word_and_value 6 v
 packed_delivered delivered.Store = word_and_value 7 0
 packed_delivered (delivered.Sc v) = word_and_value 8 v
 
+-- RULES 13.5, 1: "ready"; 2: "taken"; 3: "moved"; 4: "waits"; 9: "poked"; 10: "shown", with "the word"
 abbrev pub packed_answer : Answer → ℕ
 packed_answer answer.Ready = word_and_value 1 0
 packed_answer answer.Taken = word_and_value 2 0
@@ -43,17 +45,21 @@ packed_answer (answer.Done d) = packed_delivered d
 packed_answer answer.Poked = word_and_value 9 0
 packed_answer (answer.Word v) = word_and_value 10 v
 
+-- RULES 13.5, 11: "no block was put out"; 12: "the lent block was put out"
 abbrev pub packed_put : Put → ℕ
 packed_put put.Nothing = word_and_value 11 0
 packed_put put.Block = word_and_value 12 0
 
+-- RULES 13.5, 13: "the block is good"
 abbrev pub packed_good : Unit {0} → ℕ
 packed_good good = word_and_value 13 0
 
+-- RULES 13.5, 14: "there is no record there"; 15: "a record is handed out"
 abbrev pub packed_found : Option Numbered → ℕ
 packed_found None = word_and_value 14 0
 packed_found (Some found) = word_and_value 15 0
 
+-- RULES 13.5, 16: "the archive is good", with "how many records it has"
 abbrev pub packed_count : ℕ → ℕ
 packed_count records = word_and_value 16 (records % 4294967296)
 
@@ -80,10 +86,11 @@ packed_whole = packed_by packed_count packed_refusal
 abbrev pub packed_sought : Result (Option Numbered) ArchiveRefusal → ℕ
 packed_sought = packed_by packed_found packed_refusal
 
--- no record is 16 zero bytes, and one that no writer has numbered has the number 0
+-- RULES 13.7: "A record is its 16 bytes (7.4), with the number 0 until a writer numbers it. 16 zero bytes are no record."
 abbrev pub no_record : List ℕ
 no_record = replicate 16 0
 
+-- RULES 13.9: "Where a call hands out no record, and where it is refused, the 16 bytes for it become 0."
 abbrev pub handed_bytes : Option Record → List ℕ
 handed_bytes None = no_record
 handed_bytes (Some r) = encode_record 0 r

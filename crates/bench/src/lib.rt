@@ -1,5 +1,5 @@
 #![tactic(auto)]
-// The library for a bench in C, C++ or Rust: document 01's calls on one machine and one writer, each
+// The library for a bench in C, C++ or Rust (docs/RULES.md, 13): the rules' calls on one machine and one writer, each
 // where it stands. bench/malthobre.h declares what is exported.
 mod exports;
 mod packed;

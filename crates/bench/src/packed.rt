@@ -1,4 +1,4 @@
-// What crosses to C: an answer as one number, a record as its 16 bytes, an operation as its number.
+// What crosses to C: an answer as one number (RULES 13.4), a record as its 16 bytes (RULES 13.7).
 ghost use Rattle.std.specs.Prelude.{◌≡◌, ◌≤◌, ◌%◌, ℕ};
 ghost use Rattle.rules.specs.Refusals.{refusal_number};
 ghost use Rattle.bench.specs.Packed.{
