@@ -15,7 +15,7 @@ pub use calls::show::{show, show_word};
 pub use calls::start::start;
 pub use calls::step::{Stepped, step, step_core, step_in_place};
 pub use rules::{
-    Answer, Called, Core, Delivered, GuestAddress, Kind, Machine, MicroStep, Operation, Record, Refusal,
-    number_of,
+    Answer, Called, Core, Delivered, GuestAddress, Kind, Machine, MicroStep, Operation, Record,
+    Refusal, number_of,
 };
 pub use sizes::Sizes;

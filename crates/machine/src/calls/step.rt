@@ -6,9 +6,12 @@ ghost use Rattle.rules.specs.Ranges.{damaged};
 ghost use Rattle.rules.specs.Calls.{outcome, step_refusal, step_of};
 ghost use Rattle.machine.specs.Step.{entry_for, known_step_refusal, step_core_outcome, step_core_of, called_at, refused_step};
 
-use crate::sizes::Sizes;
 use crate::ranges;
-use rules::{Answer, Called, Core, EntryNumber, Machine, MicroStep, Record, Refusal, Shape, entry_of, read_word, write_word};
+use crate::sizes::Sizes;
+use rules::{
+    Answer, Called, Core, EntryNumber, Machine, MicroStep, Record, Refusal, Shape, entry_of,
+    read_word, write_word,
+};
 
 // What a step hands back that leaves the machine with its caller.
 #[derive(Clone, Copy, PartialEq, Eq, Debug)]
