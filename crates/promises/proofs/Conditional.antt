@@ -22,7 +22,6 @@ use Rattle.rules.specs.declared.operations.Operation.{Operation}
 use Rattle.rules.specs.declared.operations.Shape.{Shape}
 use Rattle.rules.specs.declared.operations.Shape.TheVariants.{Load, Locks}
 use Rattle.rules.specs.declared.operations.Locking.TheVariants.{Ll, Store, Sc}
-use Rattle.rules.specs.declared.answers.Delivered.{Delivered}
 use Rattle.rules.specs.declared.answers.Delivered.TheVariants as Answered
 use Rattle.rules.specs.declared.answers.Record.{Record}
 use Rattle.rules.proofs.Accepted.{sizes_fit_lem}
@@ -33,12 +32,12 @@ use Rattle.rules.proofs.Invariant.{run_inv, started_inv}
 use Rattle.promises.specs.Success.{Never, LlBy, ScBy, SpoiledBy, LatestLl, Succeeds}
 use Rattle.promises.specs.Riscv.{NoneIs, LrOf, ScOf, LatestLr, SameWord, StoreOfAnother, MustFail, no_lr, outside, stored_to, another_sc}
 use Rattle.promises.specs.Causes.{Linked, Cause, no_link, elsewhere, spoiled}
-use Rattle.promises.specs.Demand2.{At, NoForbiddenSuccess, NamedCause, AnswersTell, PokeEndsNoLink}
+use Rattle.promises.specs.Demand2.{At, NoForbiddenSuccess, NamedCause, PokeEndsNoLink}
 use Rattle.promises.proofs.Decides.{decided, decides, sc_by, by_sc, spoiled_by, by_spoiled}
 use Rattle.promises.proofs.Histories.{never_at, never_less, never_or_not, told, find_latest, latest_one}
 
 -- the same word is the same entry
-abbrev OneWord : (GuestAddress → EntryNumber) → Type 0
+abbrev pub OneWord : (GuestAddress → EntryNumber) → Type 0
 OneWord entry = (a b : GuestAddress) → SameWord a b → entry a ≡ entry b
 
 -- RISC-V's words and the written rule's say the same of a history
@@ -54,7 +53,7 @@ abbrev as_ll : {c : ℕ} {h : History} → LatestLr c h → LatestLl c h
 as_ll {c} l = record { since = l.since; ll = l.lr; before = l.before; split = l.split; by_core = l.by_hart; latest = none_never (LrOf c) l.since l.latest }
 
 -- what succeeds by the written rule is nothing that must fail
-may_succeed : (entry : GuestAddress → EntryNumber) → OneWord entry → (c : ℕ) (a : GuestAddress) (h : History) → Succeeds entry c a h → MustFail c a h → ⊥
+pub may_succeed : (entry : GuestAddress → EntryNumber) → OneWord entry → (c : ℕ) (a : GuestAddress) (h : History) → Succeeds entry c a h → MustFail c a h → ⊥
 may_succeed entry one c a h s (no_lr none) = never_at (LlBy c) s.done.since s.done.ll s.done.before (subst (Never (LlBy c)) s.done.split (none_never (LrOf c) h none)) s.done.by_core
 may_succeed entry one c a h s (outside lr far) = far (ap (λ (r : Record). r.address.0 / 4) (latest_one c h (as_ll lr) s.done).1 ∙ ap (λ (b : GuestAddress). b.0 / 4) s.there)
 may_succeed entry one c a h s (stored_to lr some) =
@@ -69,7 +68,7 @@ may_succeed entry one c a h s (stored_to lr some) =
 may_succeed entry one c a h s (another_sc lr some) = some (never_none (ScOf c) lr.since (subst (Never (ScBy c)) (sym (latest_one c h (as_ll lr) s.done).0) s.no_sc))
 
 -- what fails by the written rule has a cause
-has_cause : (entry : GuestAddress → EntryNumber) (c : ℕ) (a : GuestAddress) (h : History) → (Succeeds entry c a h → ⊥) → Cause entry c a h
+pub has_cause : (entry : GuestAddress → EntryNumber) (c : ℕ) (a : GuestAddress) (h : History) → (Succeeds entry c a h → ⊥) → Cause entry c a h
 has_cause entry c a h fails = ⊎_elim (λ none. no_link (λ k. unlinked none k)) latest (find_latest c h)
   where
     unlinked : Never (LlBy c) h → Linked c h → ⊥
@@ -138,38 +137,23 @@ judged_at : (entry : GuestAddress → EntryNumber) (later : History) (r : Record
 judged_at entry [] r earlier j = j.0
 judged_at entry (q ∷ later) r earlier j = judged_at entry later r earlier j.1
 
--- the number that an sc answers
-abbrev answered : Delivered → ℕ
-answered (Answered.Load v) = 2
-answered (Answered.Ll v) = 2
-answered Answered.Store = 2
-answered (Answered.Sc v) = v
-
 -- in a run from a fresh machine
+pub one_word : (fresh : Outcome) → Fresh fresh → OneWord (entry_rule fresh)
+one_word fresh f a b same = entry_laws.one_word fresh.called.machine.entries a b (sizes_fit_lem fresh.called.machine (started_inv fresh f).sound.ranges).entries same
+
 module _ (fresh : Outcome) (f : Fresh fresh) (calls : List Call) (r : Record) (earlier : History) (at : At fresh calls r earlier) where
   judged_here : JudgedAs r.kind (succeeds (entry_rule fresh) r.core r.address earlier)
   judged_here =
       judged_at (entry_rule fresh) at.later r earlier
       (subst (Judged (entry_rule fresh)) (sym (run_inv fresh f calls).history ∙ at.split) (judged (entry_rule fresh) fresh.memory (in_order fresh calls)))
 
-  one_word : OneWord (entry_rule fresh)
-  one_word a b same = entry_laws.one_word fresh.called.machine.entries a b (sizes_fit_lem fresh.called.machine (started_inv fresh f).sound.ranges).entries same
-
 pub no_forbidden_success : NoForbiddenSuccess
 no_forbidden_success fresh f calls r earlier at k =
-    may_succeed (entry_rule fresh) (one_word fresh f calls r earlier at) r.core r.address earlier (decided (entry_rule fresh) r.core r.address earlier ((judged_here fresh f calls r earlier at).0 k))
+    may_succeed (entry_rule fresh) (one_word fresh f) r.core r.address earlier (decided (entry_rule fresh) r.core r.address earlier ((judged_here fresh f calls r earlier at).0 k))
 
 pub named_cause : NamedCause
 named_cause fresh f calls r earlier at k =
     has_cause (entry_rule fresh) r.core r.address earlier (λ s. true≢false (sym (decides (entry_rule fresh) r.core r.address earlier s) ∙ (judged_here fresh f calls r earlier at).1 k))
-
-pub answers_tell : (entry : GuestAddress → EntryNumber) (ref : Reference) (c : ℕ) (a : GuestAddress) (v : ℕ) → AnswersTell entry ref c a v
-unfolding finish kind_of
-answers_tell entry ref c a v = go (succeeds entry c a ref.history) refl
-  where
-    go : (t : Bool) → succeeds entry c a ref.history ≡ t → AnswersTell entry ref c a v
-    go true e = record { zero_is_success = λ p. rw e; one_is_failure = λ p. absurd (eqb-false 0 1 refl (rw e at (ap answered p))) }
-    go false e = record { zero_is_success = λ p. absurd (eqb-false 1 0 refl (rw e at (ap answered p))); one_is_failure = λ p. rw e }
 
 pub poke_ends_no_link : PokeEndsNoLink
 unfolding succeeds rule_at kind_at

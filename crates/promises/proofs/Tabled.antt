@@ -27,4 +27,6 @@ met =
       fresh = record { count = 3; memory = replicate 64 0; owners = replicate 4 0; holders = replicate 4 0; accepted = refl; started = refl };
       success = (_, _, record { later = []; split = refl }, refl);
       failure = (_, _, record { later = []; split = refl }, refl);
+      delivers_0 = (_, refl, refl);
+      delivers_1 = (_, refl, refl);
     }

@@ -1,17 +1,18 @@
--- RULES 1, what is demanded: demand 2, of a run's store-conditionals. It is stated of their records, of the kinds `Success` and `Failure`.
-use Rattle.std.specs.Prelude.{◌≡◌, List, ◌∷◌, ◌++◌, ℕ}
+-- RULES 1, what is demanded: demand 2, of a run's store-conditionals: of their records, of the kinds `Success` and `Failure`, and of the answers that are delivered.
+use Rattle.std.specs.Prelude.{◌≡◌, ◌⊎◌, List, ◌∷◌, ◌++◌, ℕ, Ok}
 use Rattle.rules.specs.Kinds.{kind_number}
 use Rattle.rules.specs.Calls.{Outcome, poke_record}
 use Rattle.rules.specs.History.{History, succeeds}
-use Rattle.rules.specs.Reference.{Reference, finish}
-use Rattle.rules.specs.Runs.{Call, Fresh, records, entry_rule}
+use Rattle.rules.specs.Runs.{Call, step, act, Fresh, after, records, given_to, last_of, entry_rule}
 use Rattle.rules.specs.declared.entry.GuestAddress.{GuestAddress}
 use Rattle.rules.specs.declared.entry.EntryNumber.{EntryNumber}
 use Rattle.rules.specs.declared.answers.Record.{Record}
+use Rattle.rules.specs.declared.kinds.Kind.{Kind}
 use Rattle.rules.specs.declared.kinds.Kind.TheVariants.{Success, Failure}
 use Rattle.rules.specs.declared.operations.Operation.TheVariants as Asked
+use Rattle.rules.specs.declared.answers.Answer.TheVariants.{Done}
 use Rattle.rules.specs.declared.answers.Delivered.TheVariants as Answered
-use Rattle.promises.specs.Riscv.{MustFail}
+use Rattle.promises.specs.Riscv.{NoneIs, MustFail}
 use Rattle.promises.specs.Causes.{Cause}
 
 -- a run's records, at one of them: what came later, and what was before
@@ -29,10 +30,35 @@ abbrev pub NamedCause : Type 0
 NamedCause =
     (fresh : Outcome) → Fresh fresh → (calls : List Call) (r : Record) (earlier : History) → At fresh calls r earlier → r.kind ≡ kind_number Failure → Cause (entry_rule fresh) r.core r.address earlier
 
--- RULES 4.19: "An sc answers 0 where it succeeded and 1 where it failed.": the reference's, which by demand 3 are the answers delivered
-pub record AnswersTell (entry : GuestAddress → EntryNumber) (ref : Reference) (c : ℕ) (a : GuestAddress) (v : ℕ) : Type 0 where
-  pub zero_is_success : (finish entry ref c (Asked.Sc a v)).answer ≡ Answered.Sc 0 → (finish entry ref c (Asked.Sc a v)).access.kind ≡ kind_number Success
-  pub one_is_failure : (finish entry ref c (Asked.Sc a v)).answer ≡ Answered.Sc 1 → (finish entry ref c (Asked.Sc a v)).access.kind ≡ kind_number Failure
+-- The same of the answers. A step of core c, made after these calls, delivers v as an sc's answer (RULES 4.17, 4.19)
+abbrev pub DeliversSc : Outcome → List Call → ℕ → ℕ → Type 0
+DeliversSc fresh calls c v = (act (after fresh calls) (step c)).called.answer ≡ Ok (Done (Answered.Sc v))
+
+abbrev pub AccessBy : ℕ → Record → Type 0
+AccessBy c r = r.core ≡ c
+
+-- The access of the operation that is answered: the operation is the one that the core was given last, and its access the core's latest in the run's records. `sort` is the kind of its record, and `Judged` is what held of its address and of what was before it.
+pub record OperationsAccess (fresh : Outcome) (calls : List Call) (c : ℕ) (sort : Kind) (Judged : GuestAddress → History → Type 0) : Type 0 where
+  pub later : History
+  pub access : Record
+  pub earlier : History
+  pub split : records fresh calls ≡ later ++ access ∷ earlier
+  pub by_core : AccessBy c access
+  pub latest : NoneIs (AccessBy c) later
+  pub asked : last_of (given_to fresh c calls) ≡ Asked.Sc access.address access.value
+  pub kind : access.kind ≡ kind_number sort
+  pub judged : Judged access.address earlier
+
+-- RULES 4.19: "An sc answers 0 where it succeeded and 1 where it failed."
+pub record AnswersOf (fresh : Outcome) (calls : List Call) (c : ℕ) : Type 0 where
+  -- RULES 1.5, of an answer: where it is 0, RISC-V does not say of its access that it must fail
+  pub zero : DeliversSc fresh calls c 0 → OperationsAccess fresh calls c Success (λ a earlier. MustFail c a earlier → ⊥)
+  -- RULES 1.6, of an answer: where it is 1, a cause held at its access
+  pub one : DeliversSc fresh calls c 1 → OperationsAccess fresh calls c Failure (λ a earlier. Cause (entry_rule fresh) c a earlier)
+  pub no_other : (v : ℕ) → DeliversSc fresh calls c v → (v ≡ 0) ⊎ (v ≡ 1)
+
+abbrev pub AnswersTell : Type 0
+AnswersTell = (fresh : Outcome) → Fresh fresh → (calls : List Call) (c : ℕ) → AnswersOf fresh calls c
 
 -- RULES 1.14: "A poke writes, and ends no link.": it is no cause (RULES 5.8)
 abbrev pub PokeEndsNoLink : Type 0

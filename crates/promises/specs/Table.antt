@@ -9,7 +9,7 @@ use Rattle.rules.specs.Runs.{Call, give, step, poke, act, after, with_answer, Fr
 use Rattle.rules.specs.History.{History}
 use Rattle.rules.specs.declared.answers.Record.{Record}
 use Rattle.archive.specs.Check.{fletcher}
-use Rattle.promises.specs.Demand2.{At}
+use Rattle.promises.specs.Demand2.{At, DeliversSc}
 use Rattle.rules.specs.declared.kinds.Kind.TheVariants.{Success, Failure}
 use Rattle.rules.specs.declared.operations.Operation.TheVariants as Asked
 use Rattle.rules.specs.declared.operations.Shape.{Shape}
@@ -109,8 +109,10 @@ Each (row ∷ rest) = Holds row × Each rest
 abbrev pub SmallRuns : Type 0
 SmallRuns = Each rows
 
--- The hypotheses of demands 2 and 3 can be met: `small` is fresh, P1's run has an sc that succeeds, and P2's one that fails.
+-- The hypotheses of demands 2 and 3 can be met: `small` is fresh, P1's run has an sc that succeeds, and P2's one that fails; their last steps deliver 0 and 1.
 pub record Met : Type 0 where
   pub fresh : Fresh small
   pub success : (r : Record) × (earlier : History) × At small (played (ll 0 8 ∷ sc 0 8 5 ∷ []) []) r earlier × (r.kind ≡ kind_number Success)
   pub failure : (r : Record) × (earlier : History) × At small (played (ll 0 8 ∷ store 1 8 7 ∷ store 1 8 0 ∷ sc 0 8 5 ∷ []) []) r earlier × (r.kind ≡ kind_number Failure)
+  pub delivers_0 : (calls : List Call) × (played (ll 0 8 ∷ sc 0 8 5 ∷ []) [] ≡ step 0 ∷ calls) × DeliversSc small calls 0 0
+  pub delivers_1 : (calls : List Call) × (played (ll 0 8 ∷ store 1 8 7 ∷ store 1 8 0 ∷ sc 0 8 5 ∷ []) [] ≡ step 0 ∷ calls) × DeliversSc small calls 0 1
