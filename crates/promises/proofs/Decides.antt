@@ -1,4 +1,4 @@
--- The function that decides the success rule decides exactly what RULES 5.2 says. The entry rule is any.
+-- The test that decides the success rule passes exactly what RULES 5.2 says. The entry rule is any.
 -- Assumes nothing.
 use Rattle.std.proofs.Common.{if◌then◌else◌}
 use Rattle.std.proofs.lemmas.Bool.{false_from_ne_true, not-true}
@@ -19,7 +19,7 @@ use Rattle.rules.specs.declared.kinds.Kind.TheVariants.{Ll, Store, Success, Fail
 use Rattle.rules.specs.declared.answers.Record.{Record}
 use Rattle.rules.proofs.Bools.{and₂, and₃}
 use Rattle.rules.proofs.Shapes.{rule_numbered, by_number}
-use Rattle.promises.specs.Success.{Never, LlBy, ScBy, SpoiledBy, LatestLl, Succeeds}
+use Rattle.promises.specs.Success.{Never, LlBy, ScBy, SpoiledBy, LatestLl, Succeeds, WrittenRule}
 
 -- the kinds that each test of a row tells
 
@@ -136,3 +136,6 @@ module _ (entry : GuestAddress → EntryNumber) (c : ℕ) (a : GuestAddress) whe
   pub decides : (h : History) → Succeeds entry c a h → succeeds entry c a h ≡ true
   decides h s =
       ap (succeeds entry c a) s.done.split ∙ accepts s.done.since s.done.ll s.done.before s.done.by_core s.there s.done.latest s.no_sc s.unspoiled
+
+pub written_rule : WrittenRule
+written_rule entry c a history = record { passes_only = decided entry c a history; passes_each = decides entry c a history }

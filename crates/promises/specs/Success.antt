@@ -1,8 +1,8 @@
 -- RULES 5, when a store-conditional succeeds: the rule as it is written, over the history of access steps, the latest first. `entry` is the entry rule.
 -- RULES 5.1: "Whether an sc succeeds is judged from the history of access steps alone."
-use Rattle.std.specs.Prelude.{◌≡◌, ◌⊎◌, [], ◌∷◌, ◌++◌, ℕ}
+use Rattle.std.specs.Prelude.{◌≡◌, ◌⊎◌, true, [], ◌∷◌, ◌++◌, ℕ}
 use Rattle.rules.specs.Kinds.{kind_number}
-use Rattle.rules.specs.History.{History}
+use Rattle.rules.specs.History.{History, succeeds}
 use Rattle.rules.specs.declared.entry.GuestAddress.{GuestAddress}
 use Rattle.rules.specs.declared.entry.EntryNumber.{EntryNumber}
 use Rattle.rules.specs.declared.kinds.Kind.TheVariants.{Ll, Store, Success, Failure}
@@ -47,3 +47,11 @@ pub record Succeeds (entry : GuestAddress → EntryNumber) (c : ℕ) (a : GuestA
   pub no_sc : Never (ScBy c) done.since
   -- RULES 5.6: "Since that ll, none of the other cores has done an ll, a store or an sc that succeeded at an address whose entry is that of a."
   pub unspoiled : Never (SpoiledBy entry c a) done.since
+
+-- RULES 1.12: "The reference machine decides each sc by the success rule as it is written (5)": the test that it decides by, `succeeds`, is passed by exactly what succeeds as RULES 5.2 has it.
+pub record Decides (entry : GuestAddress → EntryNumber) (c : ℕ) (a : GuestAddress) (history : History) : Type 0 where
+  pub passes_only : succeeds entry c a history ≡ true → Succeeds entry c a history
+  pub passes_each : Succeeds entry c a history → succeeds entry c a history ≡ true
+
+abbrev pub WrittenRule : Type 0
+WrittenRule = (entry : GuestAddress → EntryNumber) (c : ℕ) (a : GuestAddress) (history : History) → Decides entry c a history
