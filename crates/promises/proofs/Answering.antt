@@ -39,7 +39,7 @@ use Rattle.promises.proofs.Decides.{decided, decides}
 use Rattle.promises.proofs.Conditional.{one_word, may_succeed, has_cause}
 
 -- the number that an sc answers, and the answers that are none of an sc
-abbrev sc_value : Delivered → ℕ
+abbrev pub sc_value : Delivered → ℕ
 sc_value (Answered.Load v) = 2
 sc_value (Answered.Ll v) = 2
 sc_value Answered.Store = 2

@@ -30,12 +30,13 @@ use Rattle.rules.specs.declared.answers.Delivered.TheVariants as Answered
 use Rattle.rules.proofs.Shapes.{shape_given}
 use Rattle.rules.proofs.Numbers.{by_zero, not_refused, start_number, give_number, step_number, poke_number}
 use Rattle.rules.proofs.Words.{word_laws}
-use Rattle.rules.proofs.Lawful.{refusal_laws, range_laws}
+use Rattle.rules.proofs.Lawful.{range_laws}
 use Rattle.rules.proofs.Invariant.{run_inv}
 use Rattle.archive.specs.Records.{kind_good, address_good}
 use Rattle.archive.specs.Promises.{GoodRecord, AllGood}
 use Rattle.archive.specs.declared.records.Side.TheVariants.{Writing}
 use Rattle.archive.proofs.Taken.{every_list_is_archived}
+use Rattle.promises.proofs.Quiet.{step_silent, poke_silent}
 use Rattle.promises.specs.Archived.{WordsGiven, RecordsAreGood, RunsAreArchived}
 
 -- an address that may stand in an archive
@@ -140,15 +141,6 @@ unfolding act
 poked_fits o a v z =
     let w = word_accepted o.called.machine (length o.memory) a (not_refused _ (sym (poke_number o.called.machine o.memory a v) ∙ z)) in
     address_good_lem a (sizes_fit_lem o.called.machine w.ranges).most_bytes w.address
-
--- a refused call makes no record
-step_silent : (o : Outcome) (core : ℕ) → (number_in (act o (step core)).called.answer ≡ 0 → ⊥) → (act o (step core)).called.made ≡ None
-unfolding act
-step_silent o core d = (refusal_laws.step_as_found o.called.machine o.memory o.owners o.holders core d).no_record
-
-poke_silent : (o : Outcome) (a : GuestAddress) (v : ℕ) → (number_in (act o (poke a v)).called.answer ≡ 0 → ⊥) → (act o (poke a v)).called.made ≡ None
-unfolding act
-poke_silent o a v d = (refusal_laws.poke_as_found o.called.machine o.memory a v o.owners o.holders d).no_record
 
 -- an access adds its whole operation, if it was one
 at_access_good : (made : Option Record) (w : Whole) (ws : List Whole) → GoodWhole w → GoodWholes ws → GoodWholes (at_access made w ws)

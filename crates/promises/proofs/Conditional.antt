@@ -3,12 +3,12 @@
 use Rattle.std.proofs.Common.{Some, if◌then◌else◌}
 use mathlib.Core.Path.{◌≡◌, refl, sym, ap, subst, ◌∙◌}
 use mathlib.Core.Logic.{◌⊎◌, inl, inr, ⊎_elim}
-use mathlib.Core.Bool.{Bool, true, false, not, true≢false, false≢true}
+use mathlib.Core.Bool.{Bool, true, false, true≢false, false≢true}
 use mathlib.Core.List.{List, [], ◌∷◌, ◌++◌}
 use Prim.Native.Nat.{ℕ, ◌/◌}
 use lib.Dec.{eqb}
 use borrow.Author.Tests.{eqb-true, eqb-false}
-use Rattle.rules.specs.Kinds.{kind_number, KindRule, rule_of, rule_at, kind_at, unlinking, writing, poke_core}
+use Rattle.rules.specs.Kinds.{kind_number, KindRule, rule_of, rule_at, unlinking, writing}
 use Rattle.rules.specs.Operations.{code_of, address_of, kind_of, shape}
 use Rattle.rules.specs.Calls.{Outcome}
 use Rattle.rules.specs.History.{History, own_sc, spoils, succeeds}
@@ -25,14 +25,13 @@ use Rattle.rules.specs.declared.operations.Locking.TheVariants.{Ll, Store, Sc}
 use Rattle.rules.specs.declared.answers.Delivered.TheVariants as Answered
 use Rattle.rules.specs.declared.answers.Record.{Record}
 use Rattle.rules.proofs.Accepted.{sizes_fit_lem}
-use Rattle.rules.proofs.Bools.{and_false}
 use Rattle.rules.proofs.Lawful.{entry_laws}
 use Rattle.rules.proofs.Shapes.{sc_rule, shape_rule, rule_made, rule_numbered}
 use Rattle.rules.proofs.Invariant.{run_inv, started_inv}
 use Rattle.promises.specs.Success.{Never, LlBy, ScBy, SpoiledBy, LatestLl, Succeeds}
 use Rattle.promises.specs.Riscv.{NoneIs, LrOf, ScOf, LatestLr, SameWord, StoreOfAnother, MustFail, no_lr, outside, stored_to, another_sc}
 use Rattle.promises.specs.Causes.{Linked, Cause, no_link, elsewhere, spoiled}
-use Rattle.promises.specs.Demand2.{At, NoForbiddenSuccess, NamedCause, PokeEndsNoLink}
+use Rattle.promises.specs.Demand2.{At, NoForbiddenSuccess, NamedCause}
 use Rattle.promises.proofs.Decides.{decided, decides, sc_by, by_sc, spoiled_by, by_spoiled}
 use Rattle.promises.proofs.Histories.{never_at, never_less, never_or_not, told, find_latest, latest_one}
 
@@ -154,7 +153,3 @@ no_forbidden_success fresh f calls r earlier at k =
 pub named_cause : NamedCause
 named_cause fresh f calls r earlier at k =
     has_cause (entry_rule fresh) r.core r.address earlier (λ s. true≢false (sym (decides (entry_rule fresh) r.core r.address earlier s) ∙ (judged_here fresh f calls r earlier at).1 k))
-
-pub poke_ends_no_link : PokeEndsNoLink
-unfolding succeeds rule_at kind_at
-poke_ends_no_link entry c a b v h = rw (and_false (eqb poke_core c), and_false (not (eqb poke_core c)))

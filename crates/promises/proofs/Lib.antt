@@ -3,6 +3,8 @@ pub mod Histories
 pub mod Conditional
 pub mod Answering
 pub mod Agreeing
+pub mod Referring
+pub mod Quiet
 pub mod Stood
 pub mod Tabled
 pub mod Archiving

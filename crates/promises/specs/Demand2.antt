@@ -1,11 +1,10 @@
 -- RULES 1, what is demanded: demand 2, of a run's store-conditionals: of their records, of the kinds `Success` and `Failure`, and of the answers that are delivered.
 use Rattle.std.specs.Prelude.{◌≡◌, ◌⊎◌, List, ◌∷◌, ◌++◌, ℕ, Ok}
 use Rattle.rules.specs.Kinds.{kind_number}
-use Rattle.rules.specs.Calls.{Outcome, poke_record}
-use Rattle.rules.specs.History.{History, succeeds}
+use Rattle.rules.specs.Calls.{Outcome}
+use Rattle.rules.specs.History.{History}
 use Rattle.rules.specs.Runs.{Call, step, act, Fresh, after, records, given_to, last_of, entry_rule}
 use Rattle.rules.specs.declared.entry.GuestAddress.{GuestAddress}
-use Rattle.rules.specs.declared.entry.EntryNumber.{EntryNumber}
 use Rattle.rules.specs.declared.answers.Record.{Record}
 use Rattle.rules.specs.declared.kinds.Kind.{Kind}
 use Rattle.rules.specs.declared.kinds.Kind.TheVariants.{Success, Failure}
@@ -59,8 +58,3 @@ pub record AnswersOf (fresh : Outcome) (calls : List Call) (c : ℕ) : Type 0 wh
 
 abbrev pub AnswersTell : Type 0
 AnswersTell = (fresh : Outcome) → Fresh fresh → (calls : List Call) (c : ℕ) → AnswersOf fresh calls c
-
--- RULES 1.14: "A poke writes, and ends no link.": it is no cause (RULES 5.8)
-abbrev pub PokeEndsNoLink : Type 0
-PokeEndsNoLink =
-    (entry : GuestAddress → EntryNumber) (c : ℕ) (a b : GuestAddress) (v : ℕ) (h : History) → succeeds entry c a (poke_record b v ∷ h) ≡ succeeds entry c a h
