@@ -1,3 +1,7 @@
+pub mod MachineCalls
+pub mod ArchiveCalls
+pub mod CodeRuns
+pub mod Determined
 pub mod Decides
 pub mod Histories
 pub mod Conditional
@@ -8,3 +12,4 @@ pub mod Quiet
 pub mod Stood
 pub mod Tabled
 pub mod Archiving
+pub mod Promised

@@ -1,4 +1,4 @@
--- RULES 1, what is demanded: demand 2, of a run's store-conditionals: of their records, of the kinds `Success` and `Failure`, and of the answers that are delivered.
+-- RULES 1, what is demanded: demand 2, of micro-steps, of a run's store-conditionals, and of archive blocks.
 use Rattle.std.specs.Prelude.{◌≡◌, ◌⊎◌, List, ◌∷◌, ◌++◌, ℕ, Ok}
 use Rattle.rules.specs.Kinds.{kind_number}
 use Rattle.rules.specs.Calls.{Outcome}
@@ -11,8 +11,20 @@ use Rattle.rules.specs.declared.kinds.Kind.TheVariants.{Success, Failure}
 use Rattle.rules.specs.declared.operations.Operation.TheVariants as Asked
 use Rattle.rules.specs.declared.answers.Answer.TheVariants.{Done}
 use Rattle.rules.specs.declared.answers.Delivered.TheVariants as Answered
+use Rattle.rules.specs.Laws.{KindLaws}
+use Rattle.archive.specs.Promises.{EachBlockReadsBack, EachArchiveReadsBack, EachRunIsAnArchive, EachRunReadsBack, EveryListIsArchived, EachBlockIsOne, SameBlock, EachArchiveIsOne, SameArchive}
+use Rattle.promises.specs.Readings.{AsTheRule}
+use Rattle.promises.specs.MachineReadings.{EachMachineCall}
+use Rattle.promises.specs.ArchiveReadings.{EachArchiveCall}
 use Rattle.promises.specs.Riscv.{NoneIs, MustFail}
 use Rattle.promises.specs.Causes.{Cause}
+
+-- RULES 1.4: "Each micro-step does what the rules of the locked table say (4).": what the code's step leaves in either form is `step_of`, whose micro-step is rules/specs/Life.antt, sentence by sentence (and what the other calls leave is theirs); a micro-step writes and links as the kind of its record says.
+pub record MicroSteps : Type 0 where
+  pub code : EachMachineCall AsTheRule
+  pub by_kind : KindLaws
+
+-- The store-conditionals of a run are judged by their records, of the kinds `Success` and `Failure`, and by the answers that are delivered.
 
 -- a run's records, at one of them: what came later, and what was before
 pub record At (fresh : Outcome) (calls : List Call) (r : Record) (earlier : History) : Type 0 where
@@ -58,3 +70,19 @@ pub record AnswersOf (fresh : Outcome) (calls : List Call) (c : ℕ) : Type 0 wh
 
 abbrev pub AnswersTell : Type 0
 AnswersTell = (fresh : Outcome) → Fresh fresh → (calls : List Call) (c : ℕ) → AnswersOf fresh calls c
+
+-- RULES 1.7: "What is read back from archive blocks is the records that were written.": of a block, of a whole archive, and of what a writer's calls put out, refused ones among them and after its close too; and the code writes and reads as these rules
+pub record ReadsBack : Type 0 where
+  pub code : EachArchiveCall AsTheRule
+  pub blocks : EachBlockReadsBack
+  pub archives : EachArchiveReadsBack
+  pub runs_are_archives : EachRunIsAnArchive
+  pub runs : EachRunReadsBack
+  pub lists : EveryListIsArchived
+
+-- RULES 1.8: "A block that is accepted is the only one with its number and its records.": it is the encoding of them, and two that are accepted with the same are the same, byte for byte; so with a whole archive
+pub record OnlyOne : Type 0 where
+  pub block_is_encoding : EachBlockIsOne
+  pub one_block : SameBlock
+  pub archive_is_encoding : EachArchiveIsOne
+  pub one_archive : SameArchive

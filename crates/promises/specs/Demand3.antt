@@ -1,4 +1,4 @@
--- RULES 1, what is demanded: demand 3.
+-- RULES 1, what is demanded: demand 3. RULES 1.9, what a run is, stands in rules/specs/Runs.antt, and of the code in CodeRuns.antt.
 -- A run is any list of calls, the latest first; since every prefix of a run is a run, what holds after every run holds at every moment.
 use Rattle.std.specs.Prelude.{◌≡◌, ◌⊎◌, List, ◌∷◌, ℕ, ◌%◌, ◌^◌, ◌<◌, Ok, true, ◌≢◌}
 use Rattle.rules.specs.Word.{read_word, write_word}

@@ -1,8 +1,15 @@
+pub mod Readings
+pub mod MachineReadings
+pub mod ArchiveReadings
+pub mod CodeRuns
 pub mod Success
 pub mod Riscv
 pub mod Causes
+pub mod Demand1
 pub mod Demand2
 pub mod Demand3
+pub mod Determined
 pub mod Standing
 pub mod Table
 pub mod Archived
+pub mod Promised
