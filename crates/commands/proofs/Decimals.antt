@@ -4,16 +4,17 @@ use Rattle.std.specs.Prelude.{Some, None}
 use Rattle.std.proofs.Common.{if◌then◌else◌}
 use mathlib.Core.Path.{◌≡◌, refl, ap, ◌∙◌}
 use mathlib.Core.Bool.{Bool, true, false, not, ◌&&◌}
-use mathlib.Core.List.{List, [], ◌∷◌, ◌++◌}
+use mathlib.Core.List.{List, [], ◌∷◌}
 use Prim.Native.Nat.{ℕ, zero, suc, ◌+◌, ◌*◌, ◌/◌, ◌%◌, ◌≤◌, ◌<◌}
 use native.Mathlib.Omega.{arith}
 use lib.ListN.{length, get_or}
 use lib.Dec.{eqb, ltb, leb}
 use borrow.Author.Tests.{le-leb, ltb-true, ltb-false, ne_eqb}
-use Rattle.commands.specs.Bytes.{space, first_field, more_fields, after_field}
-use Rattle.commands.specs.Decimal.{largest, is_digit, digit_of, all_digits, value_from, number_from, number_in, digits_before, decimal}
+use Rattle.commands.specs.Bytes.{space}
+use Rattle.commands.specs.Decimal.{largest, is_digit, digit_of, all_digits, value_from, number_from, number_said, digits_before, decimal}
 use Rattle.rules.proofs.Bools.{and₂}
 use Rattle.commands.proofs.Digits.{digit_no_space}
+use Rattle.commands.proofs.Fields.{Without}
 use Rattle.commands.proofs.Written.{one_some}
 
 -- the byte of a digit
@@ -59,10 +60,10 @@ unfolding decimal value_from
 decimal_value n = before_value (suc n) n [] (omega arith)
 
 -- the first is 0 only of 0
-before_first : (f n : ℕ) (s : List ℕ) → n < f → 1 ≤ n → eqb (get_or (digits_before f n s) 0 0) 48 ≡ false
+not_zero_first : (f n : ℕ) (s : List ℕ) → n < f → 1 ≤ n → eqb (get_or (digits_before f n s) 0 0) 48 ≡ false
 unfolding digits_before
-before_first zero n s l p = absurd (omega arith)
-before_first (suc f) n s l p = go (ltb 9 n) refl (λ k. before_first f (n / 10) ((48 + n % 10) ∷ s) (omega arith) (omega arith))
+not_zero_first zero n s l p = absurd (omega arith)
+not_zero_first (suc f) n s l p = go (ltb 9 n) refl (λ k. not_zero_first f (n / 10) ((48 + n % 10) ∷ s) (omega arith) (omega arith))
   where
     go : (t : Bool) → ltb 9 n ≡ t → (9 < n → eqb (get_or (digits_before f (n / 10) ((48 + n % 10) ∷ s)) 0 0) 48 ≡ false) → eqb (get_or (if t then digits_before f (n / 10) ((48 + n % 10) ∷ s) else (48 + n) ∷ s) 0 0) 48 ≡ false
     go true e k = k (ltb-true 9 n e)
@@ -75,37 +76,20 @@ number_is count digits zeroFirst value n c d z v l = go (ltb 1 count)
     go true = rw (ne_eqb count 0 (λ q. omega (arith, q, c)), d, z, v, le-leb n largest (omega (arith, l)))
     go false = rw (ne_eqb count 0 (λ q. omega (arith, q, c)), d, v, le-leb n largest (omega (arith, l)))
 
-pub decimal_reads : (n : ℕ) → n < 4294967296 → number_in (decimal n) ≡ Some n
-unfolding number_in decimal digits_before all_digits value_from
+pub decimal_reads : (n : ℕ) → n < 4294967296 → number_said (decimal n) ≡ Some n
+unfolding number_said decimal digits_before all_digits value_from
 decimal_reads zero l = refl
 decimal_reads (suc n) l =
     let s = decimal (suc n) in
     let some : 1 ≤ length s = one_some (suc n) in
-    let first : eqb (get_or s 0 0) 48 ≡ false = before_first (suc (suc n)) (suc n) [] (omega arith) (omega arith) in
+    let first : eqb (get_or s 0 0) 48 ≡ false = not_zero_first (suc (suc n)) (suc n) [] (omega arith) (omega arith) in
     number_is (length s) (all_digits s) (eqb (get_or s 0 0) 48) (value_from 0 s) (suc n) some (decimal_digits (suc n)) first (decimal_value (suc n)) l
 
--- a field of digits ends at a space or at the end
-pub first_digits : (s : List ℕ) → all_digits s ≡ true → first_field s ≡ s
-unfolding first_field all_digits
-first_digits [] h = refl
-first_digits (b ∷ s) h = let k = and₂ (is_digit b) (all_digits s) h in rw (digit_no_space b k.0) (ap (λ (t : List ℕ). b ∷ t) (first_digits s k.1))
+-- no digit is a space
+digits_plain : (s : List ℕ) → all_digits s ≡ true → Without space s
+unfolding all_digits
+digits_plain [] h = refl
+digits_plain (b ∷ s) h = let k = and₂ (is_digit b) (all_digits s) h in rw (digit_no_space b k.0, digits_plain s k.1)
 
-pub more_digits : (s : List ℕ) → all_digits s ≡ true → more_fields s ≡ false
-unfolding more_fields all_digits
-more_digits [] h = refl
-more_digits (b ∷ s) h = let k = and₂ (is_digit b) (all_digits s) h in rw (digit_no_space b k.0) (more_digits s k.1)
-
-pub first_then : (s t : List ℕ) → all_digits s ≡ true → first_field (s ++ space ∷ t) ≡ s
-unfolding first_field all_digits
-first_then [] t h = refl
-first_then (b ∷ s) t h = let k = and₂ (is_digit b) (all_digits s) h in rw (digit_no_space b k.0) (ap (λ (r : List ℕ). b ∷ r) (first_then s t k.1))
-
-pub more_then : (s t : List ℕ) → all_digits s ≡ true → more_fields (s ++ space ∷ t) ≡ true
-unfolding more_fields all_digits
-more_then [] t h = refl
-more_then (b ∷ s) t h = let k = and₂ (is_digit b) (all_digits s) h in rw (digit_no_space b k.0) (more_then s t k.1)
-
-pub after_then : (s t : List ℕ) → all_digits s ≡ true → after_field (s ++ space ∷ t) ≡ t
-unfolding after_field all_digits
-after_then [] t h = refl
-after_then (b ∷ s) t h = let k = and₂ (is_digit b) (all_digits s) h in rw (digit_no_space b k.0) (after_then s t k.1)
+pub decimal_plain : (n : ℕ) → Without space (decimal n)
+decimal_plain n = digits_plain (decimal n) (decimal_digits n)

@@ -13,7 +13,7 @@ use lib.Seq.{drop-cons}
 use lib.Dec.{eqb, leb, ltb}
 use borrow.Author.Tests.{le-leb, leb-true, lt-leb, lt-ltb, ne_eqb}
 use Rattle.commands.specs.Bytes.{space}
-use Rattle.commands.specs.Decimal.{largest, is_digit, digit_of, all_digits, value_from, number_from, number_in}
+use Rattle.commands.specs.Decimal.{largest, is_digit, digit_of, all_digits, value_from, number_from, number_said}
 use Rattle.rules.proofs.Bools.{and₂}
 
 pub digit_bounds : (b : ℕ) → is_digit b ≡ true → (48 ≤ b) × (b ≤ 57)
@@ -51,12 +51,12 @@ wrong_zero count digits zeroFirst value l z = rw (lt-ltb 1 count l, z) (go (not 
     go false = refl
 
 -- nothing, and a needless zero
-pub nothing : (s : List ℕ) → length s ≡ 0 → number_in s ≡ None
-unfolding number_in
+pub nothing : (s : List ℕ) → length s ≡ 0 → number_said s ≡ None
+unfolding number_said
 nothing s e = rw e
 
-pub needless : (s : List ℕ) → 2 ≤ length s → get_or s 0 0 ≡ 48 → number_in s ≡ None
-unfolding number_in
+pub needless : (s : List ℕ) → 2 ≤ length s → get_or s 0 0 ≡ 48 → number_said s ≡ None
+unfolding number_said
 needless s l e = wrong_zero (length s) (all_digits s) (eqb (get_or s 0 0) 48) (value_from 0 s) (omega arith) (rw e)
 
 -- where the reading of a field stands: only digits came, and the rest of the field gives what the whole gives
@@ -89,21 +89,21 @@ module _ (field : List ℕ) (value at : ℕ) (r : Reading field value at) (insid
       }
 
   -- a byte that is no digit, and a value that is too large
-  pub no_digit : is_digit byte ≡ false → number_in field ≡ None
-  unfolding number_in all_digits
+  pub no_digit : is_digit byte ≡ false → number_said field ≡ None
+  unfolding number_said all_digits
   no_digit d =
       let tested : all_digits field ≡ false = r.tested ∙ ap all_digits (drop-cons field at 0 inside) ∙ ap (λ (t : Bool). t && all_digits rest) d in
       rw tested (wrong_digits (length field) (eqb (get_or field 0 0) 48) (value_from 0 field))
 
-  pub large : is_digit byte ≡ true → largest < value * 10 + (byte - 48) → number_in field ≡ None
-  unfolding number_in
+  pub large : is_digit byte ≡ true → largest < value * 10 + (byte - 48) → number_said field ≡ None
+  unfolding number_said
   large d l =
       let s = next_said d in
       let g = value_grows (value * 10 + (byte - 48)) rest in
       wrong_large (length field) (all_digits field) (eqb (get_or field 0 0) 48) (value_from 0 field) (omega arith)
 
-pub reading_ends : (field : List ℕ) (value at : ℕ) → Reading field value at → length field ≤ at → 1 ≤ length field → ltb 1 (length field) && eqb (get_or field 0 0) 48 ≡ false → Some value ≡ number_in field
-unfolding number_in value_from all_digits
+pub reading_ends : (field : List ℕ) (value at : ℕ) → Reading field value at → length field ≤ at → 1 ≤ length field → ltb 1 (length field) && eqb (get_or field 0 0) 48 ≡ false → Some value ≡ number_said field
+unfolding number_said value_from all_digits
 reading_ends field value at r end some first =
     let gone = drop_of_length-le field end in
     let said : value_from 0 field ≡ value = r.said ∙ ap (value_from value) gone in

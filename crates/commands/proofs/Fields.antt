@@ -1,101 +1,83 @@
--- The first field of some bytes, by the place of the first space; and the word that they begin with.
+-- What stands before the first byte of a value, and what after it.
 -- Assumes nothing.
-use Rattle.std.specs.Prelude.{Some, None}
-use Rattle.std.specs.List.{position, position_or_len}
-use Rattle.std.proofs.lemmas.List.Recursion.{is_position_or_len}
-use Rattle.std.proofs.Common.{if◌then◌else◌}
+use Rattle.std.specs.Prelude.{Some, None, is_some, position}
+use Rattle.std.specs.List.{position_or_len, before_first, after_first, list_all}
+use Rattle.std.proofs.lemmas.List.Sums.{split_at_first, passes_at_first}
 use mathlib.Core.Path.{◌≡◌, refl, ap, ◌∙◌, sym}
-use mathlib.Core.Bool.{Bool, true, false, cond, true≢false}
-use mathlib.Core.List.{List, [], ◌∷◌}
-use Prim.Native.Nat.{ℕ, suc, ◌+◌, ◌≤◌, ◌<◌}
+use mathlib.Core.Bool.{Bool, true, false, not, cond}
+use mathlib.Core.List.{List, [], ◌∷◌, ◌++◌}
+use Prim.Native.Nat.{ℕ, suc, ◌+◌, ◌<◌}
 use native.Mathlib.Omega.{arith}
-use lib.ListN.{length, take, drop}
-use lib.Seq.{take_all}
+use lib.ListN.{length, get_or, take, drop, length-append}
+use lib.Seq.{take-length, take_all, take-append_seam, drop-append-add}
 use lib.Dec.{eqb, ltb}
-use borrow.Author.Tests.{ltb-true, ltb-false}
+use borrow.Author.Tests.{eqb-true, eq-eqb, ltb-true, ltb-false, lt-ltb, le-ltb}
+use Rattle.rules.proofs.Bools.{and₂}
 use Rattle.commands.specs.Bytes.{space, is_space, first_field, more_fields, after_field}
-use Rattle.commands.specs.Decimal.{number_in, field_of}
 
--- a further field follows exactly if it ends before the end
-pub more_before : (s : List ℕ) → length (first_field s) < length s → more_fields s ≡ true
-unfolding first_field more_fields
-more_before [] h = absurd (omega arith)
-more_before (b ∷ s) h = go (eqb b space) h (λ k. more_before s k)
-  where
-    go : (t : Bool) → length (if t then [] else b ∷ first_field s) < length (b ∷ s) → (length (first_field s) < length s → more_fields s ≡ true) → (if t then true else more_fields s) ≡ true
-    go true h k = refl
-    go false h k = k (omega arith)
+-- none of the bytes is c
+abbrev pub Without : ℕ → List ℕ → Type 0
+Without c s = list_all (λ b. not (eqb b c)) s ≡ true
 
-pub none_after : (s : List ℕ) → length s ≤ length (first_field s) → more_fields s ≡ false
-unfolding first_field more_fields
-none_after [] h = refl
-none_after (b ∷ s) h = go (eqb b space) h (λ k. none_after s k)
-  where
-    go : (t : Bool) → length (b ∷ s) ≤ length (if t then [] else b ∷ first_field s) → (length s ≤ length (first_field s) → more_fields s ≡ false) → (if t then true else more_fields s) ≡ false
-    go true h k = absurd (omega arith)
-    go false h k = k (omega arith)
+module _ (c : ℕ) where
+  abbrev is_c : ℕ → Bool
+  is_c b = eqb b c
 
--- what stands after a field's space
-pub after_field_lem : (s : List ℕ) → more_fields s ≡ true → drop (suc (length (first_field s))) s ≡ after_field s
-unfolding first_field more_fields after_field
-after_field_lem [] m = absurd (true≢false (sym m))
-after_field_lem (b ∷ s) m = go (eqb b space) m (λ h. after_field_lem s h)
-  where
-    go : (t : Bool) → (if t then true else more_fields s) ≡ true → (more_fields s ≡ true → drop (suc (length (first_field s))) s ≡ after_field s)
-        → drop (suc (length (if t then [] else b ∷ first_field s))) (b ∷ s) ≡ (if t then s else after_field s)
-    go true e h = refl
-    go false e h = h e
+  abbrev place : List ℕ → ℕ
+  place = position_or_len is_c
 
--- it is the bytes before the first space
-first_is : (s : List ℕ) → first_field s ≡ take (length (first_field s)) s
-unfolding first_field
-first_is [] = refl
-first_is (b ∷ s) = go (eqb b space) (first_is s)
-  where
-    go : (t : Bool) → first_field s ≡ take (length (first_field s)) s → (if t then [] else b ∷ first_field s) ≡ take (length (if t then [] else b ∷ first_field s)) (b ∷ s)
-    go true e = refl
-    go false e = ap (λ (t : List ℕ). b ∷ t) e
+  place_alone : (s : List ℕ) → Without c s → place s ≡ length s
+  place_alone [] h = refl
+  place_alone (b ∷ s) h = let k = and₂ (not (eqb b c)) (list_all (λ d. not (eqb d c)) s) h in rw (k.0, place_alone s k.1) (omega arith)
 
-place : (s : List ℕ) → length (first_field s) ≡ position_or_len is_space s
-unfolding first_field
-place s = is_position_or_len (λ t. length (first_field t)) is_space refl on s
-  where
-    on : (b : ℕ) (t : List ℕ) → length (first_field (b ∷ t)) ≡ cond (is_space b) 0 (1 + length (first_field t))
-    on b t = go (eqb b 32)
-      where
-        go : (u : Bool) → length (if u then [] else b ∷ first_field t) ≡ cond u 0 (1 + length (first_field t))
-        go true = refl
-        go false = omega arith
+  place_then : (s t : List ℕ) → Without c s → place (s ++ c ∷ t) ≡ length s
+  place_then [] t h = rw (eq-eqb c c refl)
+  place_then (b ∷ s) t h = let k = and₂ (not (eqb b c)) (list_all (λ d. not (eqb d c)) s) h in rw (k.0, place_then s t k.1) (omega arith)
 
-found : (s : List ℕ) → position is_space s ≡ cond (ltb (length (first_field s)) (length s)) (Some (length (first_field s))) None
-found s = rw (place s)
+  -- no such byte follows
+  pub before_alone : (s : List ℕ) → Without c s → before_first is_c s ≡ s
+  before_alone s h = rw (place_alone s h) (take-length s)
 
--- no space: the field is the whole
-pub field_alone : (s : List ℕ) → position is_space s ≡ None → record { number = number_in s; next = None } ≡ field_of s
-unfolding field_of
-field_alone s e = go (ltb n (length s)) refl (sym (found s) ∙ e)
-  where
-    n : ℕ
-    n = length (first_field s)
+  pub none_alone : (s : List ℕ) → Without c s → is_some (position is_c s) ≡ false
+  none_alone s h = rw (place_alone s h, le-ltb (length s) (length s) (omega arith))
 
-    go : (t : Bool) → ltb n (length s) ≡ t → cond t (Some n) None ≡ None → record { number = number_in s; next = None } ≡ field_of s
-    go true l h = absurd (cc)
-    go false l h =
-        let end = ltb-false n (length s) l in
-        let all : first_field s ≡ s = first_is s ∙ take_all n s end in
-        rw (all, none_after s end)
+  -- one follows, and then others
+  pub before_then : (s t : List ℕ) → Without c s → before_first is_c (s ++ c ∷ t) ≡ s
+  before_then s t h = rw (place_then s t h) (take-append_seam s (c ∷ t))
 
--- a space: the next field begins after it
-pub field_then : (s : List ℕ) (end : ℕ) → position is_space s ≡ Some end → (record { number = number_in (take end s); next = Some (end + 1) } ≡ field_of s) × (end < length s)
-unfolding field_of
-field_then s end e = go (ltb n (length s)) refl (sym (found s) ∙ e)
-  where
-    n : ℕ
-    n = length (first_field s)
+  pub some_then : (s t : List ℕ) → Without c s → is_some (position is_c (s ++ c ∷ t)) ≡ true
+  some_then s t h = rw (place_then s t h, length-append, lt-ltb (length s) (length s + suc (length t)) (omega arith))
 
-    go : (t : Bool) → ltb n (length s) ≡ t → cond t (Some n) None ≡ Some end → (record { number = number_in (take end s); next = Some (end + 1) } ≡ field_of s) × (end < length s)
-    go false l h = absurd (cc)
-    go true l h =
-        let is : n ≡ end = cc in
-        let low = ltb-true n (length s) l in
-        (rw (← is, ← first_is s, more_before s low), omega arith)
+  pub after_then : (s t : List ℕ) → Without c s → after_first is_c (s ++ c ∷ t) ≡ t
+  after_then s t h = rw (place_then s t h) (drop-append-add s (c ∷ t) 1)
+
+  -- the other way round: by the place of the first such byte
+  found : (s : List ℕ) (b : Bool) → is_some (position is_c s) ≡ b → ltb (place s) (length s) ≡ b
+  found s b e = go (ltb (place s) (length s)) refl e
+    where
+      go : (t : Bool) → ltb (place s) (length s) ≡ t → is_some (cond t (Some (place s)) None) ≡ b → ltb (place s) (length s) ≡ b
+      go true l e = l ∙ e
+      go false l e = l ∙ e
+
+  pub only : (s : List ℕ) → is_some (position is_c s) ≡ false → s ≡ before_first is_c s
+  only s e = sym (take_all (place s) s (ltb-false (place s) (length s) (found s false e)))
+
+  pub splits : (s : List ℕ) → is_some (position is_c s) ≡ true → s ≡ before_first is_c s ++ c ∷ after_first is_c s
+  splits s e =
+      let low = ltb-true (place s) (length s) (found s true e) in
+      let is = eqb-true (get_or s (place s) 0) c (passes_at_first is_c s 0 low) in
+      split_at_first is_c s 0 low ∙ ap (λ (b : ℕ). before_first is_c s ++ b ∷ after_first is_c s) is
+
+  pub placed : (s : List ℕ) (n : ℕ) → position is_c s ≡ Some n → (n ≡ place s) × (n < length s)
+  placed s n e = go (ltb (place s) (length s)) refl e
+    where
+      go : (t : Bool) → ltb (place s) (length s) ≡ t → cond t (Some (place s)) None ≡ Some n → (n ≡ place s) × (n < length s)
+      go true l h = let is : n ≡ place s = cc in (is, let low = ltb-true (place s) (length s) l in omega arith)
+      go false l h = absurd (cc)
+
+-- the first field where no space follows it, and where one does
+pub alone : (s : List ℕ) → position is_space s ≡ None → (first_field s ≡ s) × (more_fields s ≡ false)
+alone s e = let none = ap is_some e in (sym (only space s none), none)
+
+pub spaced : (s : List ℕ) (end : ℕ) → position is_space s ≡ Some end → (first_field s ≡ take end s) × (more_fields s ≡ true) × (after_field s ≡ drop (end + 1) s) × (end < length s)
+spaced s end e = let p = placed space s end e in (rw p.0, ap is_some e, rw p.0, p.1)

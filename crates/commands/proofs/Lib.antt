@@ -1,6 +1,5 @@
 pub mod Fields
 pub mod Digits
-pub mod Lines
 pub mod Written
 pub mod Placed
 pub mod Numbered

@@ -13,15 +13,15 @@ use lib.Dec.{leb, ltb}
 use borrow.Author.Tests.{lt-ltb, le-leb, leb-true, ltb-true}
 use Rattle.rules.specs.Refusals.{number_in}
 use Rattle.rules.specs.declared.answers.Answer.{Answer}
-use Rattle.rules.specs.declared.answers.Answer.TheVariants.{Ready, Taken, Moved, Waits, Load, Ll, Store, Sc, Poked, Word}
 use Rattle.rules.specs.declared.refusals.Refusal.{Refusal}
-use Rattle.commands.specs.Bytes.{space, put_in}
+use Rattle.commands.specs.Bytes.{space, newline, put_in}
 use Rattle.commands.specs.Decimal.{decimal}
-use Rattle.commands.specs.Texts.{words_of, newline, number_text, rest_of, line_text, line_put, line_end, answer_put, answer_end, line_number_of, can_stand, two_digits, digits_stand, line_number, counted_on, digits_of, PutBefore}
+use Rattle.commands.specs.Words.{answer_word}
+use Rattle.commands.specs.Texts.{answer_words, number_text, rest_of, line_text, line_put, line_end, answer_put, answer_end, line_number_of, can_stand, two_digits, digits_stand, line_number, counted_on, digits_of, PutBefore}
 use Rattle.commands.specs.Promises.{DigitsAre, CountsOn}
 use Rattle.commands.specs.declared.text.LineNumber.{LineNumber}
 use Rattle.rules.proofs.Bools.{and₂}
-use Rattle.commands.proofs.Placed.{Put, length_put, put_put, put_after, put_then, decimal_few}
+use Rattle.commands.proofs.Placed.{Put, is_put, length_put, put_put, put_after, put_then, decimal_few}
 use Rattle.commands.proofs.Written.{decimal_on, one_some}
 
 -- the digits before the last two
@@ -51,7 +51,7 @@ digits_are n = go (can_stand (n / 100)) refl
     go true e =
         let low = ltb-true 0 (n / 100) (and₂ (ltb 0 (n / 100)) (ltb (n / 100) 100000000) e).0 in
         let few : length d ≤ 8 = before_few (n / 100) e in
-        let digits : take (length d) (put_in d 0 (replicate 8 0)) ≡ d = take_at d (drop (0 + length d) (replicate 8 0)) (length d) refl in
+        let digits : take (length d) (put_in d 0 (replicate 8 0)) ≡ d = ap (take (length d)) (is_put d 0 (replicate 8 0)) ∙ take_at d (drop (0 + length d) (replicate 8 0)) (length d) refl in
         let some = lt-ltb 0 (length d) (one_some (n / 100)) in
         rw (some, le-leb (length d) 8 few, digits) (sym (decimal_two n (omega arith)))
 
@@ -129,36 +129,29 @@ whole_put number (Some l) at out out₁ e₁ small more p = rw (more l refl) (ow
 
 -- what follows the number
 pub rest_put : (answer : Result Answer Refusal) (n at : ℕ) (out out₁ out₂ out₃ out₄ : List ℕ) (e₁ e₂ e₃ e₄ : ℕ) → n ≡ number_in answer → at + 28 ≤ length out
-    → Put (space ∷ []) at out out₁ e₁ → Put (number_text n) e₁ out₁ out₂ e₂ → e₂ ≤ e₁ + 11 → Put (words_of answer) e₂ out₂ out₃ e₃ → e₃ ≤ e₂ + 15 → Put (newline ∷ []) e₃ out₃ out₄ e₄
+    → Put (space ∷ []) at out out₁ e₁ → Put (number_text n) e₁ out₁ out₂ e₂ → e₂ ≤ e₁ + 11 → Put (answer_words answer) e₂ out₂ out₃ e₃ → e₃ ≤ e₂ + 15 → Put (newline ∷ []) e₃ out₃ out₄ e₄
     → Put (rest_of answer) at out out₄ e₄
 unfolding rest_of
 rest_put answer n at out out₁ out₂ out₃ out₄ e₁ e₂ e₃ e₄ is room p q few r short s =
     let l₁ : length (number_text n) ≤ 11 = (let h = q.ends in omega arith) in
-    let l₂ : length (words_of answer) ≤ 15 = (let h = r.ends in omega arith) in
+    let l₂ : length (answer_words answer) ≤ 15 = (let h = r.ends in omega arith) in
     let two = put_then (space ∷ []) (number_text n) at out out₁ out₂ e₁ e₂ p q (omega arith) in
-    let three = put_then (space ∷ number_text n) (words_of answer) at out out₂ out₃ e₂ e₃ two r (omega arith) in
-    let l₃ : length (space ∷ number_text n ++ words_of answer) ≤ 27 = rw length-append (omega arith) in
-    rw (← is) (put_then (space ∷ number_text n ++ words_of answer) (newline ∷ []) at out out₃ out₄ e₃ e₄ three s (omega arith))
+    let three = put_then (space ∷ number_text n) (answer_words answer) at out out₂ out₃ e₂ e₃ two r (omega arith) in
+    let l₃ : length (space ∷ number_text n ++ answer_words answer) ≤ 27 = rw length-append (omega arith) in
+    rw (← is) (put_then (space ∷ number_text n ++ answer_words answer) (newline ∷ []) at out out₃ out₄ e₃ e₄ three s (omega arith))
 
-words_some : (answer : Result Answer Refusal) → 1 ≤ length (words_of answer)
-unfolding words_of
-words_some (Err n) = omega arith
-words_some (Ok Ready) = omega arith
-words_some (Ok Taken) = omega arith
-words_some (Ok Moved) = omega arith
-words_some (Ok Waits) = omega arith
-words_some (Ok (Load v)) = omega arith
-words_some (Ok (Ll v)) = omega arith
-words_some (Ok Store) = omega arith
-words_some (Ok (Sc v)) = omega arith
-words_some (Ok Poked) = omega arith
-words_some (Ok (Word v)) = omega arith
+word_some : (answer : Result Answer Refusal) → 1 ≤ length (answer_word answer)
+word_some (Err refusal) = omega arith
+word_some (Ok answer) = some answer
+  where
+    some : (a : Answer) → 1 ≤ length (answer_word (Ok a))
+    some a = grind arith
 
 rest_some : (answer : Result Answer Refusal) → 5 ≤ length (rest_of answer)
-unfolding rest_of
+unfolding rest_of answer_words
 rest_some answer =
     let n = one_some (number_in answer) in
-    let w = words_some answer in
+    let w = word_some answer in
     simp length-append (omega arith)
 
 -- what is known once an answer was to be written

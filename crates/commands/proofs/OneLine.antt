@@ -1,60 +1,40 @@
 -- A line that is understood is the line of its command.
 -- Assumes nothing.
-use Rattle.std.specs.Prelude.{Option, Some, None, IfSome, option_map, option_and_then}
-use Rattle.std.proofs.lemmas.Option.{cond_some}
+use Rattle.std.specs.Prelude.{Option, Some, None, IfSome, option_map, option_and_then, codes}
+use Rattle.std.specs.List.{AllByRecursion}
+use Rattle.std.proofs.lemmas.Option.{cond_some, same_Some}
 use Rattle.std.proofs.Common.{if◌then◌else◌}
 use mathlib.Core.Path.{◌≡◌, refl, ap, ◌∙◌, sym, subst}
-use mathlib.Core.Bool.{Bool, true, false, not, ◌&&◌, true≢false, false≢true}
+use mathlib.Core.Bool.{Bool, true, false, not, ◌&&◌}
 use mathlib.Core.List.{List, [], ◌∷◌, ◌++◌, append_assoc, append-nil}
 use Prim.Native.Nat.{ℕ, zero, suc, ◌+◌, ◌*◌, ◌/◌, ◌%◌, ◌≤◌}
 use native.Mathlib.Omega.{arith}
-use lib.ListN.{length, drop}
+use lib.ListN.{length, take, drop, take-append-drop}
 use lib.Dec.{eqb, ltb, leb}
-use borrow.Author.Tests.{eqb-true, eqb-false, lt-ltb, not-true}
+use lib.Pointwise.{bytes_decides}
+use borrow.Author.Tests.{eqb-false, lt-ltb, not-true}
 use Rattle.rules.specs.declared.entry.GuestAddress.{GuestAddress}
 use Rattle.rules.specs.declared.operations.Operation.{Operation}
 use Rattle.rules.specs.declared.operations.Operation.TheVariants.{Load, Ll, Store, Sc}
-use Rattle.commands.specs.Bytes.{begins, space, first_field, more_fields, after_field}
-use Rattle.commands.specs.Decimal.{largest, is_digit, digit_of, all_digits, value_from, number_from, number_in, decimal}
-use Rattle.commands.specs.Grammar.{new_word, give_word, step_word, poke_word, show_word, load_word, ll_word, store_word, sc_word, third_number, second_number, numbers_of, step_command, address_of, address_and_value_of, with_address, with_value, new_command, operation_of, give_command, too_long, command_of, operation_text, line_of}
-use Rattle.commands.specs.Promises.{UnderstoodIsWritten, OnlyOne}
+use Rattle.rules.specs.Entry.{nowhere}
+use Rattle.commands.specs.Bytes.{begins, after_text, space, first_field, more_fields, after_field}
+use Rattle.commands.specs.Decimal.{largest, is_digit, digit_of, all_digits, value_from, number_from, number_said, number_first, decimal}
+use Rattle.commands.specs.Words.{Words, after_word, said_or, said, command_words, new_word, give_word, step_word, poke_word, show_word, operation_words}
+use Rattle.commands.specs.Grammar.{third_number, second_number, first_number, numbers_of, of_numbers, operation_with, operation_of, give_after, give_command, command_with, command_after, too_long, command_of, numbers_text, operation_text, line_of}
+use Rattle.commands.specs.Promises.{UnderstoodIsWritten, OneLine}
 use Rattle.commands.specs.declared.grammar.Numbers.{Numbers}
 use Rattle.commands.specs.declared.grammar.Numbers.TheVariants.{One, Two, Three}
 use Rattle.commands.specs.declared.grammar.Command.{Command}
-use Rattle.commands.specs.declared.grammar.Command.TheVariants.{Give, Poke, Show}
+use Rattle.commands.specs.declared.grammar.Command.TheVariants.{Give}
+use Rattle.commands.specs.declared.words.CommandName.{CommandName}
+use Rattle.commands.specs.declared.words.CommandName.TheVariants as Name
+use Rattle.commands.specs.declared.words.OperationForm.{OperationForm}
+use Rattle.commands.specs.declared.words.OperationForm.TheVariants.{Address, AddressAndValue}
 use Rattle.rules.proofs.Bools.{and₂}
 use Rattle.commands.proofs.Digits.{digit_bounds}
+use Rattle.commands.proofs.Fields.{only, splits}
 use Rattle.commands.proofs.Placed.{one_digit}
 use Rattle.commands.proofs.Written.{decimal_on}
-
--- the word that a line begins with
-begins_is : (word s : List ℕ) → begins word s ≡ true → s ≡ word ++ drop (length word) s
-unfolding begins
-begins_is [] s h = refl
-begins_is (w ∷ word) [] h = absurd (false≢true h)
-begins_is (w ∷ word) (b ∷ s) h =
-    let k = and₂ (eqb b w) (begins word s) h in
-    rw (eqb-true b w k.0) (ap (λ (t : List ℕ). w ∷ t) (begins_is word s k.1))
-
--- a line is its first field, or that, a space and what follows
-field_only : (s : List ℕ) → more_fields s ≡ false → s ≡ first_field s
-unfolding first_field more_fields
-field_only [] m = refl
-field_only (b ∷ s) m = go (eqb b space) m (λ h. field_only s h)
-  where
-    go : (t : Bool) → (if t then true else more_fields s) ≡ false → (more_fields s ≡ false → s ≡ first_field s) → b ∷ s ≡ (if t then [] else b ∷ first_field s)
-    go true e h = absurd (true≢false e)
-    go false e h = ap (λ (t : List ℕ). b ∷ t) (h e)
-
-field_then : (s : List ℕ) → more_fields s ≡ true → s ≡ first_field s ++ space ∷ after_field s
-unfolding first_field more_fields after_field
-field_then [] m = absurd (false≢true m)
-field_then (b ∷ s) m = go (eqb b space) refl m (λ h. field_then s h)
-  where
-    go : (t : Bool) → eqb b space ≡ t → (if t then true else more_fields s) ≡ true → (more_fields s ≡ true → s ≡ first_field s ++ space ∷ after_field s)
-        → b ∷ s ≡ (if t then [] else b ∷ first_field s) ++ space ∷ (if t then s else after_field s)
-    go true q e h = ap (λ (c : ℕ). c ∷ s) (eqb-true b space q)
-    go false q e h = ap (λ (t : List ℕ). b ∷ t) (h e)
 
 -- one more digit
 digit_byte : (b : ℕ) → is_digit b ≡ true → (digit_of b ≤ 9) × (48 + digit_of b ≡ b)
@@ -87,8 +67,8 @@ number_tests count digits zeroFirst value n e =
     let tests = and₂ (not (eqb count 0) && digits) (not (ltb 1 count && zeroFirst)) front in
     ((and₂ (not (eqb count 0)) digits tests.0).1, tests.1, is.1)
 
-number_bytes : (s : List ℕ) (n : ℕ) → number_in s ≡ Some n → s ≡ decimal n
-unfolding number_in all_digits value_from
+number_bytes : (s : List ℕ) (n : ℕ) → number_said s ≡ Some n → s ≡ decimal n
+unfolding number_said all_digits value_from
 number_bytes [] n e = absurd (cc)
 number_bytes (b ∷ []) n e =
     let t = number_tests 1 (all_digits (b ∷ [])) (eqb b 48) (value_from 0 (b ∷ [])) n e in
@@ -110,156 +90,201 @@ number_bytes (b ∷ c ∷ s) n e =
     above zero q o = absurd (o (sym q))
     above (suc d) q o = omega arith
 
--- numbers, written
-numbers_text : Numbers → List ℕ
-numbers_text (One a) = decimal a
-numbers_text (Two a b) = decimal a ++ space ∷ decimal b
-numbers_text (Three a b c) = decimal a ++ space ∷ decimal b ++ space ∷ decimal c
-
--- bytes that are no numbers, or are those numbers written after others
-abbrev Says : (List ℕ → List ℕ) → List ℕ → Option Numbers → Type 0
-Says front s n = IfSome n (λ m. front s ≡ numbers_text m)
-
--- bytes whose first field is a number
-only_number : (s : List ℕ) (n : ℕ) → number_in (first_field s) ≡ Some n → more_fields s ≡ false → s ≡ decimal n
-only_number s n e m = field_only s m ∙ number_bytes (first_field s) n e
-
-then_number : (s : List ℕ) (n : ℕ) → number_in (first_field s) ≡ Some n → more_fields s ≡ true → s ≡ decimal n ++ space ∷ after_field s
-then_number s n e m = field_then s m ∙ ap (λ (t : List ℕ). t ++ space ∷ after_field s) (number_bytes (first_field s) n e)
-
-third_says : (a b : ℕ) (s : List ℕ) → Says (λ (t : List ℕ). decimal a ++ space ∷ decimal b ++ space ∷ t) s (third_number a b s)
-unfolding third_number numbers_text
-third_says a b s = go (number_in (first_field s)) refl
-  where
-    by : (c : ℕ) → number_in (first_field s) ≡ Some c → (m : Bool) → more_fields s ≡ m → Says (λ (t : List ℕ). decimal a ++ space ∷ decimal b ++ space ∷ t) s (if m then None else Some (Three a b c))
-    by c e true m = tt
-    by c e false m = ap (λ (t : List ℕ). decimal a ++ space ∷ decimal b ++ space ∷ t) (only_number s c e m)
-
-    go : (n : Option ℕ) → number_in (first_field s) ≡ n → Says (λ (t : List ℕ). decimal a ++ space ∷ decimal b ++ space ∷ t) s (option_and_then (λ c. if more_fields s then None else Some (Three a b c)) n)
-    go None e = tt
-    go (Some c) e = by c e (more_fields s) refl
-
-second_says : (a : ℕ) (s : List ℕ) → Says (λ (t : List ℕ). decimal a ++ space ∷ t) s (second_number a s)
-unfolding second_number numbers_text
-second_says a s = go (number_in (first_field s)) refl
-  where
-    on : (b : ℕ) → number_in (first_field s) ≡ Some b → more_fields s ≡ true → (n : Option Numbers) → Says (λ (t : List ℕ). decimal a ++ space ∷ decimal b ++ space ∷ t) (after_field s) n → Says (λ (t : List ℕ). decimal a ++ space ∷ t) s n
-    on b e m None h = tt
-    on b e m (Some n) h = ap (λ (t : List ℕ). decimal a ++ space ∷ t) (then_number s b e m) ∙ sym (append_assoc (decimal a) (space ∷ decimal b) (space ∷ after_field s)) ∙ h
-
-    by : (b : ℕ) → number_in (first_field s) ≡ Some b → (m : Bool) → more_fields s ≡ m → Says (λ (t : List ℕ). decimal a ++ space ∷ t) s (if m then third_number a b (after_field s) else Some (Two a b))
-    by b e true m = on b e m (third_number a b (after_field s)) (third_says a b (after_field s))
-    by b e false m = ap (λ (t : List ℕ). decimal a ++ space ∷ t) (only_number s b e m)
-
-    go : (n : Option ℕ) → number_in (first_field s) ≡ n → Says (λ (t : List ℕ). decimal a ++ space ∷ t) s (option_and_then (λ b. if more_fields s then third_number a b (after_field s) else Some (Two a b)) n)
-    go None e = tt
-    go (Some b) e = by b e (more_fields s) refl
-
-numbers_say : (s : List ℕ) → Says (λ (t : List ℕ). t) s (numbers_of s)
-unfolding numbers_of numbers_text
-numbers_say s = go (number_in (first_field s)) refl
-  where
-    on : (a : ℕ) → number_in (first_field s) ≡ Some a → more_fields s ≡ true → (n : Option Numbers) → Says (λ (t : List ℕ). decimal a ++ space ∷ t) (after_field s) n → Says (λ (t : List ℕ). t) s n
-    on a e m None h = tt
-    on a e m (Some n) h = then_number s a e m ∙ h
-
-    by : (a : ℕ) → number_in (first_field s) ≡ Some a → (m : Bool) → more_fields s ≡ m → Says (λ (t : List ℕ). t) s (if m then second_number a (after_field s) else Some (One a))
-    by a e true m = on a e m (second_number a (after_field s)) (second_says a (after_field s))
-    by a e false m = only_number s a e m
-
-    go : (n : Option ℕ) → number_in (first_field s) ≡ n → Says (λ (t : List ℕ). t) s (option_and_then (λ a. if more_fields s then second_number a (after_field s) else Some (One a)) n)
-    go None e = tt
-    go (Some a) e = by a e (more_fields s) refl
-
 -- no value, or one whose text this is
 abbrev Written : {A : Type 0} → (A → List ℕ) → List ℕ → Option A → Type 0
-Written text line c = IfSome c (λ x. line ≡ text x)
+Written text s c = IfSome c (λ x. s ≡ text x)
 
--- a test's two sides
-either : {A : Type 0} (text : A → List ℕ) (line : List ℕ) (t : Bool) (c d : Option A) → (t ≡ true → Written text line c) → Written text line d → Written text line (if t then c else d)
-either text line true c d h k = h refl
-either text line false c d h k = k
+-- a number at the front, and what follows it
+ahead : ℕ → Option (List ℕ) → List ℕ
+ahead n None = decimal n
+ahead n (Some t) = decimal n ++ space ∷ t
 
-address_written : {A : Type 0} (text : A → List ℕ) (line word s : List ℕ) (make : GuestAddress → A) → line ≡ word ++ s → ((a : GuestAddress) → text (make a) ≡ word ++ decimal a.0) → Written text line (with_address make s)
-unfolding numbers_text
-address_written text line word s make e l = go (numbers_of s) (numbers_say s)
+first_says : (s : List ℕ) → IfSome {T = ℕ × Option (List ℕ)} (number_first s) (λ p. s ≡ ahead p.0 p.1)
+unfolding number_first ahead
+first_says s = go (number_said (first_field s)) refl (more_fields s) refl
   where
-    go : (n : Option Numbers) → Says (λ (t : List ℕ). t) s n → Written text line (option_map make (option_and_then address_of n))
+    go : (n : Option ℕ) → number_said (first_field s) ≡ n → (m : Bool) → more_fields s ≡ m
+        → IfSome {T = ℕ × Option (List ℕ)} (option_map (λ k. (k, if m then Some (after_field s) else None)) n) (λ p. s ≡ ahead p.0 p.1)
+    go None e m q = tt
+    go (Some n) e true q = splits space s q ∙ ap (λ (t : List ℕ). t ++ space ∷ after_field s) (number_bytes (first_field s) n e)
+    go (Some n) e false q = only space s q ∙ number_bytes (first_field s) n e
+
+-- what is read of a number and of what follows it is written so: then of the bytes that they make
+front_says : {B : Type 0} (text : B → List ℕ) (before : List ℕ → List ℕ) (read : ℕ → Option (List ℕ) → Option B)
+    → ((n : ℕ) (t : Option (List ℕ)) → Written text (before (ahead n t)) (read n t))
+    → (s : List ℕ) → Written text (before s) (option_and_then (λ p. read p.0 p.1) (number_first s))
+front_says {B} text before read so s = go (number_first s) (first_says s)
+  where
+    go : (p : Option (ℕ × Option (List ℕ))) → IfSome p (λ q. s ≡ ahead q.0 q.1) → Written text (before s) (option_and_then (λ q. read q.0 q.1) p)
     go None h = tt
-    go (Some (One a)) h = e ∙ ap (λ (t : List ℕ). word ++ t) h ∙ sym (l (record { 0 = a }))
-    go (Some (Two a b)) h = tt
+    go (Some q) h = let P : List ℕ → Type 0 = λ t. Written text (before t) (read q.0 q.1) in subst P (sym h) (so q.0 q.1)
+
+third_says : (a b c : ℕ) (t : Option (List ℕ)) → Written numbers_text (decimal a ++ space ∷ (decimal b ++ space ∷ ahead c t)) (third_number a b c t)
+unfolding ahead
+third_says a b c None = refl
+third_says a b c (Some s) = tt
+
+second_says : (a b : ℕ) (t : Option (List ℕ)) → Written numbers_text (decimal a ++ space ∷ ahead b t) (second_number a b t)
+unfolding ahead
+second_says a b None = refl
+second_says a b (Some s) = front_says numbers_text (λ u. decimal a ++ space ∷ (decimal b ++ space ∷ u)) (third_number a b) (third_says a b) s
+
+first_number_says : (a : ℕ) (t : Option (List ℕ)) → Written numbers_text (ahead a t) (first_number a t)
+unfolding ahead
+first_number_says a None = refl
+first_number_says a (Some s) = front_says numbers_text (λ u. decimal a ++ space ∷ u) (second_number a) (second_says a) s
+
+numbers_say : (s : List ℕ) → Written numbers_text s (numbers_of s)
+unfolding numbers_of
+numbers_say s = front_says numbers_text (λ u. u) first_number first_number_says s
+
+-- bytes that begin with a word and a space
+text_is : (text s t : List ℕ) → after_text text s ≡ Some t → s ≡ text ++ t
+text_is text s t e = go (begins text s) refl e
+  where
+    go : (b : Bool) → begins text s ≡ b → (if b then Some (drop (length text) s) else None) ≡ Some t → s ≡ text ++ t
+    go false q e = absurd (cc)
+    go true q e =
+        let front : take (length text) s ≡ text = (bytes_decides (take (length text) s) text).0 q in
+        sym (take-append-drop (length text) s) ∙ ap (λ (u : List ℕ). u ++ drop (length text) s) front ∙ ap (λ (u : List ℕ). text ++ u) (same_Some (drop (length text) s) t e)
+
+pub word_is : (word s t : List ℕ) → after_word word s ≡ Some t → s ≡ word ++ space ∷ t
+word_is word s t e = go (after_text word s) refl e
+  where
+    go : (u : Option (List ℕ)) → after_text word s ≡ u → option_and_then (after_text (space ∷ [])) u ≡ Some t → s ≡ word ++ space ∷ t
+    go None q e = absurd (cc)
+    go (Some u) q e = text_is word s u q ∙ ap (λ (v : List ℕ). word ++ v) (text_is (space ∷ []) u t e)
+
+-- what is read of each word of a list, and of what follows it, is written so: then what is read by the list
+abbrev Reads : {A B : Type 0} → (B → List ℕ) → (A → List ℕ → Option B) → List ℕ × A → Type 0
+Reads text read row = (t : List ℕ) → Written text (row.0 ++ space ∷ t) (read row.1 t)
+
+said_written : {A B : Type 0} (text : B → List ℕ) (read : A → List ℕ → Option B) (words : Words A) → AllByRecursion (Reads text read) words
+    → (s : List ℕ) → Written text s (option_and_then (λ p. read p.0 p.1) (said words s))
+unfolding said
+said_written text read [] so s = tt
+said_written text read (row ∷ words) so s = go (after_word row.0 s) refl (said_written text read words so.1 s)
+  where
+    go : (t : Option (List ℕ)) → after_word row.0 s ≡ t → Written text s (option_and_then (λ p. read p.0 p.1) (said words s))
+        → Written text s (option_and_then (λ p. read p.0 p.1) (said_or row.1 t (said words s)))
+    go None e others = others
+    go (Some t) e others = let P : List ℕ → Type 0 = λ u. Written text u (read row.1 t) in subst P (sym (word_is row.0 s t e)) (so.0 t)
+
+-- the operations
+operation_after : OperationForm → List ℕ → Option Operation
+operation_after form t = option_and_then (operation_with form) (numbers_of t)
+
+address_reads : (word : List ℕ) (o : Operation) → ((a : GuestAddress) → word ++ space ∷ decimal a.0 ≡ operation_text (of_numbers o a 0)) → Reads operation_text operation_after (word, Address o)
+unfolding operation_after
+address_reads word o e t = go (numbers_of t) (numbers_say t)
+  where
+    go : (n : Option Numbers) → Written numbers_text t n → Written operation_text (word ++ space ∷ t) (option_and_then (operation_with (Address o)) n)
+    go None h = tt
+    go (Some (One a)) h = ap (λ (u : List ℕ). word ++ space ∷ u) h ∙ e (record { 0 = a })
+    go (Some (Two a v)) h = tt
     go (Some (Three a b c)) h = tt
 
-value_written : {A : Type 0} (text : A → List ℕ) (line word s : List ℕ) (make : GuestAddress → ℕ → A) → line ≡ word ++ s → ((a : GuestAddress) (v : ℕ) → text (make a v) ≡ word ++ (decimal a.0 ++ space ∷ decimal v)) → Written text line (with_value make s)
-unfolding numbers_text
-value_written text line word s make e l = go (numbers_of s) (numbers_say s)
+value_reads : (word : List ℕ) (o : Operation) → ((a : GuestAddress) (v : ℕ) → word ++ space ∷ (decimal a.0 ++ space ∷ decimal v) ≡ operation_text (of_numbers o a v)) → Reads operation_text operation_after (word, AddressAndValue o)
+unfolding operation_after
+value_reads word o e t = go (numbers_of t) (numbers_say t)
   where
-    go : (n : Option Numbers) → Says (λ (t : List ℕ). t) s n → Written text line (option_map (λ p. make p.0 p.1) (option_and_then address_and_value_of n))
+    go : (n : Option Numbers) → Written numbers_text t n → Written operation_text (word ++ space ∷ t) (option_and_then (operation_with (AddressAndValue o)) n)
     go None h = tt
     go (Some (One a)) h = tt
-    go (Some (Two a v)) h = e ∙ ap (λ (t : List ℕ). word ++ t) h ∙ sym (l (record { 0 = a }) v)
+    go (Some (Two a v)) h = ap (λ (u : List ℕ). word ++ space ∷ u) h ∙ e (record { 0 = a }) v
     go (Some (Three a b c)) h = tt
 
-step_written : (line : List ℕ) → begins step_word line ≡ true → Written line_of line (option_and_then step_command (numbers_of (drop 5 line)))
-unfolding line_of numbers_text
-step_written line w = go (numbers_of (drop 5 line)) (numbers_say (drop 5 line))
-  where
-    go : (n : Option Numbers) → Says (λ (t : List ℕ). t) (drop 5 line) n → Written line_of line (option_and_then step_command n)
-    go None h = tt
-    go (Some (One a)) h = begins_is step_word line w ∙ ap (λ (t : List ℕ). step_word ++ t) h
-    go (Some (Two a b)) h = tt
-    go (Some (Three a b c)) h = tt
-
-new_written : (line : List ℕ) → begins new_word line ≡ true → Written line_of line (option_and_then new_command (numbers_of (drop 4 line)))
-unfolding line_of numbers_text
-new_written line w = go (numbers_of (drop 4 line)) (numbers_say (drop 4 line))
-  where
-    go : (n : Option Numbers) → Says (λ (t : List ℕ). t) (drop 4 line) n → Written line_of line (option_and_then new_command n)
-    go None h = tt
-    go (Some (One a)) h = tt
-    go (Some (Two a b)) h = begins_is new_word line w ∙ ap (λ (t : List ℕ). new_word ++ t) h
-    go (Some (Three a b c)) h = begins_is new_word line w ∙ ap (λ (t : List ℕ). new_word ++ t) h
+operations_read : AllByRecursion (Reads operation_text operation_after) operation_words
+unfolding operation_text
+operations_read = (
+  address_reads (codes "load") (Load nowhere) (λ a. refl),
+  (
+    address_reads (codes "ll") (Ll nowhere) (λ a. refl),
+    (
+      value_reads (codes "store") (Store nowhere 0) (λ a v. refl),
+      (value_reads (codes "sc") (Sc nowhere 0) (λ a v. refl), tt),
+    ),
+  ),
+)
 
 operation_written : (s : List ℕ) → Written operation_text s (operation_of s)
-unfolding operation_of operation_text
-operation_written s =
-    either operation_text s (begins load_word s) _ _ (λ w. address_written operation_text s load_word (drop 5 s) Load (begins_is load_word s w) (λ a. refl))
-    (either operation_text s (begins ll_word s) _ _ (λ w. address_written operation_text s ll_word (drop 3 s) Ll (begins_is ll_word s w) (λ a. refl))
-    (either operation_text s (begins store_word s) _ _ (λ w. value_written operation_text s store_word (drop 6 s) Store (begins_is store_word s w) (λ a v. refl))
-    (either operation_text s (begins sc_word s) _ _ (λ w. value_written operation_text s sc_word (drop 3 s) Sc (begins_is sc_word s w) (λ a v. refl)) tt)))
+unfolding operation_of operation_after
+operation_written s = said_written operation_text operation_after operation_words operations_read s
 
-give_written : (line : List ℕ) → begins give_word line ≡ true → Written line_of line (give_command (drop 5 line))
-unfolding give_command line_of
-give_written line w = go (number_in (first_field (drop 5 line))) refl
+-- the commands
+give_after_says : (core : ℕ) (t : Option (List ℕ)) → Written line_of (give_word ++ space ∷ ahead core t) (give_after core t)
+unfolding ahead line_of
+give_after_says core None = tt
+give_after_says core (Some s) = go (operation_of s) (operation_written s)
   where
-    on : (core : ℕ) (o : Option Operation) → line ≡ give_word ++ (decimal core ++ space ∷ after_field (drop 5 line)) → Written operation_text (after_field (drop 5 line)) o → Written line_of line (option_map (Give core) o)
-    on core None e h = tt
-    on core (Some o) e h = e ∙ ap (λ (t : List ℕ). give_word ++ (decimal core ++ space ∷ t)) h
+    go : (o : Option Operation) → Written operation_text s o → Written line_of (give_word ++ space ∷ (decimal core ++ space ∷ s)) (option_map (Give core) o)
+    go None h = tt
+    go (Some o) h = ap (λ (u : List ℕ). give_word ++ space ∷ (decimal core ++ space ∷ u)) h
 
-    by : (core : ℕ) → number_in (first_field (drop 5 line)) ≡ Some core → (m : Bool) → more_fields (drop 5 line) ≡ m → Written line_of line (if m then option_map (Give core) (operation_of (after_field (drop 5 line))) else None)
-    by core e true m =
-        on core (operation_of (after_field (drop 5 line))) (begins_is give_word line w ∙ ap (λ (t : List ℕ). give_word ++ t) (then_number (drop 5 line) core e m)) (operation_written (after_field (drop 5 line)))
-    by core e false m = tt
+give_reads : Reads line_of command_after (give_word, Name.Give)
+unfolding give_command
+give_reads t = front_says line_of (λ u. give_word ++ space ∷ u) give_after give_after_says t
 
-    go : (n : Option ℕ) → number_in (first_field (drop 5 line)) ≡ n → Written line_of line (option_and_then (λ core. if more_fields (drop 5 line) then option_map (Give core) (operation_of (after_field (drop 5 line))) else None) n)
-    go None e = tt
-    go (Some core) e = by core e (more_fields (drop 5 line)) refl
+plain_reads : (word : List ℕ) (name : CommandName) → ((n : Numbers) → Written line_of (word ++ space ∷ numbers_text n) (command_with name n))
+    → (t : List ℕ) → Written line_of (word ++ space ∷ t) (option_and_then (command_with name) (numbers_of t))
+plain_reads word name so t = go (numbers_of t) (numbers_say t)
+  where
+    go : (n : Option Numbers) → Written numbers_text t n → Written line_of (word ++ space ∷ t) (option_and_then (command_with name) n)
+    go None h = tt
+    go (Some n) h = let P : List ℕ → Type 0 = λ u. Written line_of (word ++ space ∷ u) (command_with name n) in subst P (sym h) (so n)
+
+new_says : (n : Numbers) → Written line_of (new_word ++ space ∷ numbers_text n) (command_with Name.New n)
+unfolding line_of
+new_says (One a) = tt
+new_says (Two cores bytes) = refl
+new_says (Three cores bytes entries) = refl
+
+step_says : (n : Numbers) → Written line_of (step_word ++ space ∷ numbers_text n) (command_with Name.Step n)
+unfolding line_of
+step_says (One core) = refl
+step_says (Two a b) = tt
+step_says (Three a b c) = tt
+
+poke_says : (n : Numbers) → Written line_of (poke_word ++ space ∷ numbers_text n) (command_with Name.Poke n)
+unfolding line_of
+poke_says (One a) = tt
+poke_says (Two a v) = refl
+poke_says (Three a b c) = tt
+
+show_says : (n : Numbers) → Written line_of (show_word ++ space ∷ numbers_text n) (command_with Name.Show n)
+unfolding line_of
+show_says (One a) = refl
+show_says (Two a b) = tt
+show_says (Three a b c) = tt
+
+commands_read : AllByRecursion (Reads line_of command_after) command_words
+commands_read = (
+  give_reads,
+  (
+    plain_reads show_word Name.Show show_says,
+    (
+      plain_reads poke_word Name.Poke poke_says,
+      (
+        plain_reads step_word Name.Step step_says,
+        (plain_reads new_word Name.New new_says, tt),
+      ),
+    ),
+  ),
+)
 
 line_written : (line : List ℕ) → Written line_of line (command_of line)
-unfolding command_of line_of
-line_written line =
-    either line_of line (too_long line) _ _ (λ w. tt)
-    (either line_of line (begins step_word line) _ _ (λ w. step_written line w)
-    (either line_of line (begins give_word line) _ _ (λ w. give_written line w)
-    (either line_of line (begins show_word line) _ _ (λ w. address_written line_of line show_word (drop 5 line) Show (begins_is show_word line w) (λ a. refl))
-    (either line_of line (begins poke_word line) _ _ (λ w. value_written line_of line poke_word (drop 5 line) Poke (begins_is poke_word line w) (λ a v. refl))
-    (either line_of line (begins new_word line) _ _ (λ w. new_written line w) tt)))))
+unfolding command_of
+line_written line = go (too_long line)
+  where
+    go : (t : Bool) → Written line_of line (if t then None else option_and_then (λ p. command_after p.0 p.1) (said command_words line))
+    go true = tt
+    go false = said_written line_of command_after command_words commands_read line
 
 pub understood_is_written : UnderstoodIsWritten
 understood_is_written line c e = let P : Option Command → Type 0 = Written line_of line in subst P e (line_written line)
 
-pub only_one : OnlyOne
-only_one line other e u = go (command_of line) refl
+pub one_line : OneLine
+one_line line other e u = go (command_of line) refl
   where
     go : (c : Option Command) → command_of line ≡ c → line ≡ other
     go None n = absurd (u n)

@@ -8,16 +8,17 @@ use Prim.Native.Nat.{ℕ, zero, suc, ◌+◌, ◌/◌, ◌%◌, ◌^◌, ◌-◌
 use native.Mathlib.Nat.{pow-succ'}
 use native.Mathlib.Omega.{arith}
 use lib.ListN.{length, take, drop, length-append, length-drop, take-append-drop}
-use lib.Seq.{take_at, drop-append-add, drop-drop, length-take-le}
+use lib.Seq.{take_at, take-length, length-paste, drop-append-add, drop-drop, length-take-le}
 use lib.Dec.{ltb}
 use borrow.Author.Tests.{ltb-true, le-ltb}
 use Rattle.commands.specs.Bytes.{put_in}
 use Rattle.commands.specs.Decimal.{digits_before, decimal}
 
+pub is_put : (s : List ℕ) (at : ℕ) (out : List ℕ) → put_in s at out ≡ take at out ++ s ++ drop (at + length s) out
+is_put s at out = ap (λ (t : List ℕ). take at out ++ t ++ drop (at + length s) out) (take-length s)
+
 pub length_put : (s : List ℕ) (at : ℕ) (out : List ℕ) → at + length s ≤ length out → length (put_in s at out) ≡ length out
-length_put s at out h =
-    let l : length (take at out) ≡ at = length-take-le at out (omega arith) in
-    rw (length-append, length-append, l, length-drop) (omega arith)
+length_put s at out h = length-paste out at s (length s) h (omega arith)
 
 pub put_put : (s t : List ℕ) (at : ℕ) (out : List ℕ) → at + length s + length t ≤ length out → put_in t (at + length s) (put_in s at out) ≡ put_in (s ++ t) at out
 put_put s t at out h =
@@ -26,10 +27,11 @@ put_put s t at out h =
     let l : length (take at out) ≡ at = length-take-le at out (omega arith) in
     let n : length p ≡ at + length s = length-append (take at out) s ∙ ap (λ (k : ℕ). k + length s) l in
     let front : take (at + length s) (p ++ q) ≡ p = take_at p q (at + length s) n in
-    let back : drop (at + length s + length t) (p ++ q) ≡ drop (at + length s + length t) out = ap (λ (k : ℕ). drop (k + length t) (p ++ q)) (sym n) ∙ drop-append-add p q (length t) ∙ drop-drop (length t) (at + length s) out in
+    let back : drop (at + length s + length t) (p ++ q) ≡ drop (at + length s + length t) out =
+    ap (λ (k : ℕ). drop (k + length t) (p ++ q)) (sym n) ∙ drop-append-add p q (length t) ∙ drop-drop (length t) (at + length s) out in
     let last : at + length s + length t ≡ at + length (s ++ t) = rw (length-append s t) (omega arith) in
     let seam : p ++ t ≡ take at out ++ (s ++ t) = append_assoc (take at out) s t in
-    rw (front, back, last, seam)
+    ap (put_in t (at + length s)) (is_put s at out) ∙ is_put t (at + length s) (p ++ q) ∙ rw (front, back, last, seam) (sym (is_put (s ++ t) at out))
 
 -- over a text that is no longer
 put_over : (s t : List ℕ) (at : ℕ) (out : List ℕ) → length s ≤ length t → at + length t ≤ length out → put_in t at (put_in s at out) ≡ put_in t at out
@@ -42,7 +44,7 @@ put_over s t at out h k =
     let front : take at (p ++ q) ≡ take at out = ap (take at) (append_assoc (take at out) s q) ∙ take_at (take at out) (s ++ q) at l in
     let m : at + length s + more ≡ at + length t = omega arith in
     let back : drop (at + length t) (p ++ q) ≡ drop (at + length t) out = rw (← n) (drop-append-add p q more) ∙ drop-drop more (at + length s) out ∙ rw m in
-    rw (front, back)
+    ap (put_in t at) (is_put s at out) ∙ rw (front, back)
 
 -- a text put in after the first bytes of another, and over the rest of that
 pub put_after : (first text : List ℕ) (k at : ℕ) (out : List ℕ) → k ≤ length first → length first ≤ k + length text → at + k + length text ≤ length out

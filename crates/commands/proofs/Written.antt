@@ -14,7 +14,7 @@ use lib.Dec.{ltb, leb}
 use borrow.Author.Tests.{lt-ltb, ltb-true, leb-true, leb-false}
 use Rattle.commands.specs.Bytes.{put_in}
 use Rattle.commands.specs.Decimal.{digits_before, decimal}
-use Rattle.commands.proofs.Placed.{one_digit}
+use Rattle.commands.proofs.Placed.{is_put, one_digit}
 
 -- more turns than digits change nothing
 pub enough : (f g n : ℕ) (s : List ℕ) → n < f → n < g → digits_before f n s ≡ digits_before g n s
@@ -78,7 +78,7 @@ put_last s x at out h =
     let front : take at (set out k x) ≡ take at out = take-set-le at out k x (omega arith) in
     let back : drop k (set out k x) ≡ x ∷ drop (suc k) out = drop-set out k x h in
     let seam : take at out ++ (s ++ x ∷ []) ≡ take at out ++ s ++ x ∷ [] = sym (append_assoc (take at out) s (x ∷ [])) in
-    rw (n, front, back, seam) (append_assoc (take at out ++ s) (x ∷ []) (drop (suc k) out))
+    is_put (s ++ x ∷ []) at out ∙ rw (n, front, back, seam) (append_assoc (take at out ++ s) (x ∷ []) (drop (suc k) out)) ∙ sym (is_put s at (set out k x))
   where
     drop-set : (l : List ℕ) (i x : ℕ) → i < length l → drop i (set l i x) ≡ x ∷ drop (suc i) l
     drop-set [] i x h = absurd (omega arith)
@@ -109,8 +109,8 @@ several_left number at out₀ left to out w h = go (leb left 9) refl
     go true e = absurd (let one = one_in_all left (leb-true left 9 e) in let ends = w.ends in omega arith)
     go false e = leb-false left 9 e
 
-pub one_left : (number at : ℕ) (out₀ : List ℕ) (left to : ℕ) (out : List ℕ) → Writing number at out₀ left to out → to ≤ at + 1 → left ≤ 9
-one_left number at out₀ left to out w h = go (leb left 9) refl
+pub one_digit_left : (number at : ℕ) (out₀ : List ℕ) (left to : ℕ) (out : List ℕ) → Writing number at out₀ left to out → to ≤ at + 1 → left ≤ 9
+one_digit_left number at out₀ left to out w h = go (leb left 9) refl
   where
     go : (t : Bool) → leb left 9 ≡ t → left ≤ 9
     go true e = leb-true left 9 e

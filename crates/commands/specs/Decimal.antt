@@ -1,7 +1,7 @@
 -- Document 01, "Script program": "decimal numbers 0..4,294,967,295 without needless zeros".
-use Rattle.std.specs.Prelude.{ℕ, zero, suc, ◌+◌, ◌*◌, ◌-◌, ◌/◌, ◌%◌, Bool, true, not, ◌&&◌, Option, Some, None, List, [], ◌∷◌, length, get_or, leb, ltb, eqb, if◌then◌else◌}
-use Rattle.commands.specs.Bytes.{first_field, more_fields}
-use Rattle.commands.specs.declared.decimal.Field.{Field}
+use Rattle.std.specs.Prelude.{ℕ, zero, suc, ◌+◌, ◌*◌, ◌-◌, ◌/◌, ◌%◌, Bool, true, not, ◌&&◌, Option, Some, None, option_map, List, [], ◌∷◌, length, get_or, leb, ltb, eqb, if◌then◌else◌}
+use Rattle.commands.specs.Bytes.{first_field, more_fields, after_field}
+use denote.Ref.{Bor}
 
 abbrev pub largest : ℕ
 largest = 4294967295
@@ -28,16 +28,16 @@ number_from count digits zeroFirst value =
     if not (eqb count 0) && digits && not (ltb 1 count && zeroFirst) && leb value largest then Some value else None
 
 -- the number that a field says, if it says one
-unfoldable pub number_in : List ℕ → Option ℕ
-number_in s = number_from (length s) (all_digits s) (eqb (get_or s 0 0) 48) (value_from 0 s)
+unfoldable pub number_said : List ℕ → Option ℕ
+number_said s = number_from (length s) (all_digits s) (eqb (get_or s 0 0) 48) (value_from 0 s)
 
--- where the next field begins, if one follows
-abbrev pub next_field : List ℕ → Option ℕ
-next_field s = if more_fields s then Some (length (first_field s) + 1) else None
+-- a number at the front of some bytes, and what follows the space after it, if one follows
+unfoldable pub number_first : List ℕ → Option (ℕ × Option (List ℕ))
+number_first s = option_map (λ n. (n, if more_fields s then Some (after_field s) else None)) (number_said (first_field s))
 
--- the first field of a line
-unfoldable pub field_of : List ℕ → Field
-field_of s = record { number = number_in (first_field s); next = next_field s }
+-- the same, as the code has it
+abbrev pub front : ℕ × Option (Bor (List ℕ)) → ℕ × Option (List ℕ)
+front p = (p.0, option_map (λ rest. rest.now) p.1)
 
 -- a number's digits before what follows them; a number has no more digits than the turns given
 unfoldable pub digits_before : ℕ → ℕ → List ℕ → List ℕ

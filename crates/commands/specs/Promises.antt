@@ -8,12 +8,14 @@ use Rattle.rules.specs.declared.answers.Answer.TheVariants.{Ready}
 use Rattle.rules.specs.declared.refusals.Refusal.{Refusal}
 use Rattle.rules.specs.declared.refusals.Refusal.TheVariants.{NotUnderstood, NoMachine}
 use Rattle.rules.specs.declared.operations.Operation.{Operation}
-use Rattle.rules.specs.declared.operations.Operation.TheVariants.{Load, Ll, Store, Sc}
-use Rattle.commands.specs.Bytes.{first_field, more_fields, after_field}
+use Rattle.commands.specs.Bytes.{space, newline, first_field, more_fields, after_field}
 use Rattle.commands.specs.Decimal.{decimal}
-use Rattle.commands.specs.Grammar.{step_word, command_of, short_step, line_of}
-use Rattle.commands.specs.Effect.{stands, After, after, running, refused_ran, new_of, run_line}
-use Rattle.commands.specs.Texts.{words_of, newline, line_room, answer_line, line_number, counted_on, digits_of}
+use Rattle.commands.specs.Words.{row_of, step_word}
+use Rattle.commands.specs.Grammar.{numbers_taken, command_of, short_step, line_of}
+use Rattle.commands.specs.Effect.{stands, LineOutcome, line_refused, running, new_of, run_line}
+use Rattle.commands.specs.Texts.{answer_words, line_room, answer_line, line_number, counted_on, digits_of}
+use Rattle.commands.specs.declared.grammar.Numbers.{Numbers}
+use Rattle.commands.specs.declared.grammar.Numbers.TheVariants.{One, Two, Three}
 use Rattle.commands.specs.declared.grammar.Command.{Command}
 use Rattle.commands.specs.declared.grammar.Command.TheVariants.{New, Give, Step, Poke, Show}
 use Rattle.commands.specs.declared.effect.Session.{Session}
@@ -27,11 +29,13 @@ FirstBytesDecide =
 abbrev pub Small : ℕ → Type 0
 Small n = n < 4294967296
 
+abbrev pub SmallNumbers : Numbers → Type 0
+SmallNumbers (One a) = Small a
+SmallNumbers (Two a b) = Small a × Small b
+SmallNumbers (Three a b c) = Small a × Small b × Small c
+
 abbrev pub SmallOperation : Operation → Type 0
-SmallOperation (Load a) = Small a.0
-SmallOperation (Ll a) = Small a.0
-SmallOperation (Store a v) = Small a.0 × Small v
-SmallOperation (Sc a v) = Small a.0 × Small v
+SmallOperation o = SmallNumbers (numbers_taken (row_of o).1 o)
 
 -- a command with numbers that can be written
 abbrev pub Writable : Command → Type 0
@@ -46,11 +50,15 @@ Writable (Show a) = Small a.0
 abbrev pub RoundTrip : Type 0
 RoundTrip = (c : Command) → Writable c → command_of (line_of c) ≡ Some c
 
--- bytes that begin with a step of one digit and its newline: that line's command
+-- a step of one digit
+abbrev pub short_line : ℕ → List ℕ
+short_line core = step_word ++ space ∷ (48 + core) ∷ []
+
+-- bytes that begin with it and a newline: that line's command
 pub record ShortStep (s : List ℕ) (core : ℕ) : Type 0 where
   pub one_digit : core ≤ 9
-  pub line : s ≡ step_word ++ (48 + core) ∷ newline ∷ drop 7 s
-  pub command : command_of (step_word ++ (48 + core) ∷ []) ≡ Some (Step core)
+  pub line : s ≡ short_line core ++ newline ∷ drop (length (short_line core) + 1) s
+  pub command : command_of (short_line core) ≡ Some (Step core)
 
 abbrev pub ShortSteps : Type 0
 ShortSteps = (s : List ℕ) (core : ℕ) → short_step s ≡ Some core → ShortStep s core
@@ -60,8 +68,8 @@ abbrev pub UnderstoodIsWritten : Type 0
 UnderstoodIsWritten = (line : List ℕ) (c : Command) → command_of line ≡ Some c → line ≡ line_of c
 
 -- "without needless zeros", "single spaces": two different lines are never the same command
-abbrev pub OnlyOne : Type 0
-OnlyOne = (line other : List ℕ) → command_of line ≡ command_of other → (command_of line ≡ None → ⊥) → line ≡ other
+abbrev pub OneLine : Type 0
+OneLine = (line other : List ℕ) → command_of line ≡ command_of other → (command_of line ≡ None → ⊥) → line ≡ other
 
 -- "line number from 1, answer number, then" words, with single spaces between them and a newline at the end
 pub record AnswerParts (number : ℕ) (answer : Result Answer Refusal) : Type 0 where
@@ -69,7 +77,7 @@ pub record AnswerParts (number : ℕ) (answer : Result Answer Refusal) : Type 0 
   pub then_answer : more_fields (answer_line number answer) ≡ true
   pub answer_number : first_field (after_field (answer_line number answer)) ≡ decimal (number_in answer)
   pub then_words : more_fields (after_field (answer_line number answer)) ≡ true
-  pub words : after_field (after_field (answer_line number answer)) ≡ words_of answer ++ newline ∷ []
+  pub words : after_field (after_field (answer_line number answer)) ≡ answer_words answer ++ newline ∷ []
 
 abbrev pub AnswerReads : Type 0
 AnswerReads = (number : ℕ) (answer : Result Answer Refusal) → AnswerParts number answer
@@ -91,33 +99,33 @@ abbrev pub CountsOn : Type 0
 CountsOn = (number : ℕ) → counted_on (line_number number) (number + 1) ≡ line_number (number + 1)
 
 -- a machine, its memory and its table are as they were, and nothing was made
-pub record Kept (session : Session) (memory owners holders : List ℕ) (a : After) : Type 0 where
-  pub same_session : a.ran.session ≡ session
-  pub nothing_made : a.ran.made ≡ None
-  pub same_memory : a.memory ≡ memory
-  pub same_owners : a.owners ≡ owners
-  pub same_holders : a.holders ≡ holders
+pub record Kept (session : Session) (memory owners holders : List ℕ) (o : LineOutcome) : Type 0 where
+  pub same_session : o.session ≡ session
+  pub nothing_made : o.made ≡ None
+  pub same_memory : o.memory ≡ memory
+  pub same_owners : o.owners ≡ owners
+  pub same_holders : o.holders ≡ holders
 
 -- "if refused, the old machine stays"
 abbrev pub RefusedNewLeaves : Type 0
 RefusedNewLeaves =
     (session : Session) (memory owners holders : List ℕ) (cores bytes entries : ℕ)
-    → (number_in (new_of session memory owners holders cores bytes entries).ran.answer ≡ 0 → ⊥)
+    → (number_in (new_of session memory owners holders cores bytes entries).answer ≡ 0 → ⊥)
     → Kept session memory owners holders (new_of session memory owners holders cores bytes entries)
 
 -- a new machine: all its cores idle, its memory and table 0; the rest of what is lent as before
-pub record Afresh (memory owners holders : List ℕ) (cores bytes entries : ℕ) (a : After) : Type 0 where
-  pub ready : a.ran.answer ≡ Ok Ready
-  pub runs : a.ran.session ≡ running (all_idle cores bytes entries)
-  pub new_memory : a.memory ≡ replicate bytes 0 ++ drop bytes memory
-  pub new_owners : a.owners ≡ replicate entries 0 ++ drop entries owners
-  pub new_holders : a.holders ≡ replicate entries 0 ++ drop entries holders
+pub record Afresh (memory owners holders : List ℕ) (cores bytes entries : ℕ) (o : LineOutcome) : Type 0 where
+  pub ready : o.answer ≡ Ok Ready
+  pub runs : o.session ≡ running (all_idle cores bytes entries)
+  pub new_memory : o.memory ≡ replicate bytes 0 ++ drop bytes memory
+  pub new_owners : o.owners ≡ replicate entries 0 ++ drop entries owners
+  pub new_holders : o.holders ≡ replicate entries 0 ++ drop entries holders
 
 -- "if accepted, starts afresh"
 abbrev pub AcceptedNewStartsAfresh : Type 0
 AcceptedNewStartsAfresh =
     (session : Session) (memory owners holders : List ℕ) (cores bytes entries : ℕ)
-    → number_in (new_of session memory owners holders cores bytes entries).ran.answer ≡ 0
+    → number_in (new_of session memory owners holders cores bytes entries).answer ≡ 0
     → Afresh memory owners holders cores bytes entries (new_of session memory owners holders cores bytes entries)
 
 -- `new CORES BYTES [ENTRIES]`
@@ -131,9 +139,9 @@ is_new (Some (Show a)) = false
 
 -- "script 9, 10": a line that is not understood is answered 9 whether or not a machine stands; any other but a `new` is answered 10 where none stands
 pub record NineThenTen (session : Session) (memory owners holders line : List ℕ) : Type 0 where
-  pub nine : command_of line ≡ None → run_line session memory owners holders line ≡ after (refused_ran NotUnderstood session) memory owners holders
+  pub nine : command_of line ≡ None → run_line session memory owners holders line ≡ line_refused NotUnderstood session memory owners holders
   pub ten : stands session ≡ false → (command_of line ≡ None → ⊥) → is_new (command_of line) ≡ false
-      → run_line session memory owners holders line ≡ after (refused_ran NoMachine session) memory owners holders
+      → run_line session memory owners holders line ≡ line_refused NoMachine session memory owners holders
 
 abbrev pub NineBeforeTen : Type 0
 NineBeforeTen = (session : Session) (memory owners holders line : List ℕ) → NineThenTen session memory owners holders line

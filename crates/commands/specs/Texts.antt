@@ -1,69 +1,30 @@
 -- Document 01, "Script program": "Each output line: line number from 1, answer number, then" words.
-use Rattle.std.specs.Prelude.{ℕ, ◌+◌, ◌/◌, ◌%◌, ◌≤◌, ◌≡◌, Bool, ◌&&◌, Option, Some, None, Result, Ok, Err, List, [], ◌∷◌, ◌++◌, length, take, replicate, leb, ltb, if◌then◌else◌}
+use Rattle.std.specs.Prelude.{ℕ, ◌+◌, ◌/◌, ◌%◌, ◌≤◌, ◌≡◌, Bool, ◌&&◌, Option, Some, None, Result, List, [], ◌∷◌, ◌++◌, length, take, replicate, leb, ltb, if◌then◌else◌}
+use Rattle.rules.specs.Answers.{values_of}
 use Rattle.rules.specs.Refusals.{number_in}
 use Rattle.rules.specs.declared.answers.Answer.{Answer}
-use Rattle.rules.specs.declared.answers.Answer.TheVariants.{Ready, Taken, Moved, Waits, Load, Ll, Store, Sc, Poked, Word}
 use Rattle.rules.specs.declared.refusals.Refusal.{Refusal}
-use Rattle.commands.specs.Bytes.{space, put_in}
+use Rattle.commands.specs.Bytes.{space, newline, put_in}
 use Rattle.commands.specs.Decimal.{decimal}
+use Rattle.commands.specs.Words.{answer_word}
 use Rattle.commands.specs.declared.text.LineNumber.{LineNumber}
 
-abbrev pub refused_text : List ℕ
-refused_text = 114 ∷ 101 ∷ 102 ∷ 117 ∷ 115 ∷ 101 ∷ 100 ∷ []
+-- the values of an answer, each after a space
+abbrev pub values_text : List ℕ → List ℕ
+values_text [] = []
+values_text (v ∷ []) = space ∷ decimal v
+values_text (v ∷ w ∷ values) = space ∷ decimal v ++ values_text (w ∷ values)
 
-abbrev pub ready_text : List ℕ
-ready_text = 114 ∷ 101 ∷ 97 ∷ 100 ∷ 121 ∷ []
-
-abbrev pub taken_text : List ℕ
-taken_text = 116 ∷ 97 ∷ 107 ∷ 101 ∷ 110 ∷ []
-
-abbrev pub moved_text : List ℕ
-moved_text = 109 ∷ 111 ∷ 118 ∷ 101 ∷ 100 ∷ []
-
-abbrev pub waits_text : List ℕ
-waits_text = 119 ∷ 97 ∷ 105 ∷ 116 ∷ 115 ∷ []
-
-abbrev pub load_text : List ℕ
-load_text = 108 ∷ 111 ∷ 97 ∷ 100 ∷ 32 ∷ []
-
-abbrev pub ll_text : List ℕ
-ll_text = 108 ∷ 108 ∷ 32 ∷ []
-
-abbrev pub store_text : List ℕ
-store_text = 115 ∷ 116 ∷ 111 ∷ 114 ∷ 101 ∷ []
-
-abbrev pub sc_text : List ℕ
-sc_text = 115 ∷ 99 ∷ 32 ∷ []
-
-abbrev pub poked_text : List ℕ
-poked_text = 112 ∷ 111 ∷ 107 ∷ 101 ∷ 100 ∷ []
-
-abbrev pub word_text : List ℕ
-word_text = 119 ∷ 111 ∷ 114 ∷ 100 ∷ 32 ∷ []
-
--- "`refused`, `ready`, `taken`, `moved`, `waits`, `load V`, `ll V`, `store`, `sc V`, `poked` or `word V`"
-unfoldable pub words_of : Result Answer Refusal → List ℕ
-words_of (Err refusal) = refused_text
-words_of (Ok Ready) = ready_text
-words_of (Ok Taken) = taken_text
-words_of (Ok Moved) = moved_text
-words_of (Ok Waits) = waits_text
-words_of (Ok (Load v)) = load_text ++ decimal v
-words_of (Ok (Ll v)) = ll_text ++ decimal v
-words_of (Ok Store) = store_text
-words_of (Ok (Sc v)) = sc_text ++ decimal v
-words_of (Ok Poked) = poked_text
-words_of (Ok (Word v)) = word_text ++ decimal v
-
-abbrev pub newline : ℕ
-newline = 10
+-- "`refused`, `ready`, `taken`, `moved`, `waits`, `load V`, `ll V`, `store`, `sc V`, `poked` or `word V`": the answer's word, and the values that the rules give it
+unfoldable pub answer_words : Result Answer Refusal → List ℕ
+answer_words answer = answer_word answer ++ values_text (values_of answer)
 
 abbrev pub number_text : ℕ → List ℕ
 number_text n = decimal n ++ space ∷ []
 
 -- what follows a line's number: the answer's number, its words and a newline
 unfoldable pub rest_of : Result Answer Refusal → List ℕ
-rest_of answer = space ∷ number_text (number_in answer) ++ words_of answer ++ newline ∷ []
+rest_of answer = space ∷ number_text (number_in answer) ++ answer_words answer ++ newline ∷ []
 
 -- a line whose number is written in these digits
 unfoldable pub line_text : List ℕ → Result Answer Refusal → List ℕ

@@ -1,21 +1,14 @@
 // Decimal numbers without needless zeros, read and written.
-ghost use Rattle.std.specs.Prelude.{◌≡◌, ◌+◌, ◌<◌, ◌≤◌, IfSome, length};
+ghost use Rattle.std.specs.Prelude.{◌≡◌, ◌+◌, ◌≤◌, option_map, length};
 ghost use Rattle.std.specs.List.{position};
 ghost use Rattle.commands.specs.Bytes.{is_space, put_in};
-ghost use Rattle.commands.specs.Decimal.{is_digit, number_in, field_of, decimal};
-
-// A field read as a number, and where the next field begins, if one follows.
-#[derive(Clone, Copy)]
-pub(crate) struct Field {
-    pub number: Option<u32>,
-    pub next: Option<usize>,
-}
+ghost use Rattle.commands.specs.Decimal.{is_digit, number_said, number_first, front, decimal};
 
 // The number that a field says, if it says one. No `parse`: it takes a `+` and needless zeros, which the rules'
 // numbers don't have, and wants the bytes as a `str` first.
 #[tactic(auto, using(crate::proofs::Digits::nothing, crate::proofs::Digits::needless, crate::proofs::Digits::no_digit, crate::proofs::Digits::large, crate::proofs::Digits::reading_ends))]
-fn number_in(field: &[u8]) -> Option<u32>
-    ensures { result ≡ number_in field.now }
+fn number_said(field: &[u8]) -> Option<u32>
+    ensures { result ≡ number_said field.now }
 {
     let [first, ..] = field else {
         return None;
@@ -41,21 +34,14 @@ fn first_space(line: &[u8]) -> Option<usize>
     line.iter().position(|b| *b == b' ')
 }
 
-// The first field of a line.
-#[tactic(auto, using(crate::proofs::Fields::field_alone, crate::proofs::Fields::field_then))]
-pub(crate) fn field_of(line: &[u8]) -> Field
-    ensures value { result ≡ field_of line.now }
-    ensures next_in_bounds { IfSome result.next (λ next. next ≤ length line.now) }
+// A number at the front of some bytes, and what follows the space after it, if one follows.
+#[tactic(auto, unfolding(crate::specs::Decimal::number_first), using(crate::proofs::Fields::alone, crate::proofs::Fields::spaced))]
+pub(crate) fn number_first(bytes: &[u8]) -> Option<(u32, Option<&[u8]>)>
+    ensures { option_map front result ≡ number_first bytes.now }
 {
-    match first_space(line) {
-        None => Field {
-            number: number_in(line),
-            next: None,
-        },
-        Some(end) => Field {
-            number: number_in(&line[..end]),
-            next: Some(end + 1),
-        },
+    match first_space(bytes) {
+        None => Some((number_said(bytes)?, None)),
+        Some(end) => Some((number_said(&bytes[..end])?, Some(&bytes[end + 1..]))),
     }
 }
 

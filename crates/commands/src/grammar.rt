@@ -1,19 +1,19 @@
 // The grammar: what command a line is.
-ghost use Rattle.std.specs.Prelude.{◌≡◌, option_and_then};
+ghost use Rattle.std.specs.Prelude.{◌≡◌};
 ghost use Rattle.commands.specs.Grammar.{
   numbers_of,
-  address_of,
-  address_and_value_of,
-  step_command,
-  new_command,
+  of_numbers,
+  operation_with,
   operation_of,
   give_command,
+  command_with,
   too_long,
   command_of,
   short_step,
 };
 
-use crate::decimal::field_of;
+use crate::decimal::number_first;
+use crate::words::{CommandName, OperationForm, STEP, after_word, command_said, operation_said};
 use machine::{GuestAddress, Operation};
 
 // A line that is understood says one of these. An entry count that is left out stays left out.
@@ -38,102 +38,88 @@ pub enum Numbers {
     Three(u32, u32, u32),
 }
 
-// The numbers that are the whole of some bytes. No `split`: each field is cut off as in `give_in`, which hands on whole
+// The numbers that are the whole of some bytes. No `split`: each number is cut off as in `give_in`, which hands on whole
 // what follows it, and as `numbers_of` says it. An empty last field counts too, and is no number.
-#[tactic(auto, using(crate::proofs::Lines::numbers_none, crate::proofs::Lines::numbers_one))]
+#[tactic(auto, unfolding(crate::specs::Grammar::numbers_of))]
 fn numbers_in(bytes: &[u8]) -> Option<Numbers>
     ensures { result ≡ numbers_of bytes.now }
 {
-    let first = field_of(bytes);
-    let a = first.number?;
-    let Some(next) = first.next else {
+    let (a, rest) = number_first(bytes)?;
+    let Some(rest) = rest else {
         return Some(Numbers::One(a));
     };
-    let bytes = &bytes[next..];
-    let second = field_of(bytes);
-    let b = second.number?;
-    let Some(next) = second.next else {
+    let (b, rest) = number_first(rest)?;
+    let Some(rest) = rest else {
         return Some(Numbers::Two(a, b));
     };
-    let third = field_of(&bytes[next..]);
-    let c = third.number?;
-    match third.next {
+    let (c, rest) = number_first(rest)?;
+    match rest {
         Some(_) => None,
         None => Some(Numbers::Three(a, b, c)),
     }
 }
 
-fn address_in(bytes: &[u8]) -> Option<GuestAddress>
-    ensures { result ≡ option_and_then address_of (numbers_of bytes.now) }
+// An operation of an address and a value; one that takes no value has none.
+fn of_numbers(operation: Operation, address: GuestAddress, value: u32) -> Operation
+    ensures { result ≡ of_numbers operation address value }
 {
-    let Numbers::One(a) = numbers_in(bytes)? else {
-        return None;
-    };
-    Some(GuestAddress(a))
+    match operation {
+        Operation::Load(_) => Operation::Load(address),
+        Operation::Ll(_) => Operation::Ll(address),
+        Operation::Store(_, _) => Operation::Store(address, value),
+        Operation::Sc(_, _) => Operation::Sc(address, value),
+    }
 }
 
-fn address_and_value_in(bytes: &[u8]) -> Option<(GuestAddress, u32)>
-    ensures { result ≡ option_and_then address_and_value_of (numbers_of bytes.now) }
+// With the numbers that it takes.
+fn operation_with(form: OperationForm, numbers: Numbers) -> Option<Operation>
+    ensures { result ≡ operation_with form numbers }
 {
-    let Numbers::Two(a, v) = numbers_in(bytes)? else {
-        return None;
-    };
-    Some((GuestAddress(a), v))
+    match (form, numbers) {
+        (OperationForm::Address(o), Numbers::One(a)) => Some(of_numbers(o, GuestAddress(a), 0)),
+        (OperationForm::AddressAndValue(o), Numbers::Two(a, v)) => {
+            Some(of_numbers(o, GuestAddress(a), v))
+        }
+        _ => None,
+    }
 }
 
-// An operation's word, its address and, where it writes, its value.
+// A word of the list, and the numbers that its operation takes.
+#[tactic(auto, unfolding(crate::specs::Grammar::operation_of))]
 fn operation_in(bytes: &[u8]) -> Option<Operation>
     ensures { result ≡ operation_of bytes.now }
 {
-    if let Some(rest) = bytes.strip_prefix(b"load ") {
-        return address_in(rest).map(Operation::Load);
-    }
-    if let Some(rest) = bytes.strip_prefix(b"ll ") {
-        return address_in(rest).map(Operation::Ll);
-    }
-    if let Some(rest) = bytes.strip_prefix(b"store ") {
-        return address_and_value_in(rest).map(|(a, v)| Operation::Store(a, v));
-    }
-    if let Some(rest) = bytes.strip_prefix(b"sc ") {
-        return address_and_value_in(rest).map(|(a, v)| Operation::Sc(a, v));
-    }
-    None
+    let (form, rest) = operation_said(bytes)?;
+    operation_with(form, numbers_in(rest)?)
 }
 
-#[tactic(auto, using(crate::proofs::Lines::give_none, crate::proofs::Lines::give_short))]
+#[tactic(auto, unfolding(crate::specs::Grammar::give_command))]
 fn give_in(bytes: &[u8]) -> Option<Command>
     ensures { result ≡ give_command bytes.now }
 {
-    let first = field_of(bytes);
-    let core = first.number?;
-    let next = first.next?;
-    operation_in(&bytes[next..]).map(|operation| Command::Give(core, operation))
+    let (core, rest) = number_first(bytes)?;
+    operation_in(rest?).map(|operation| Command::Give(core, operation))
 }
 
-fn step_in(bytes: &[u8]) -> Option<Command>
-    ensures { result ≡ option_and_then step_command (numbers_of bytes.now) }
+// A command of numbers alone.
+fn command_with(name: CommandName, numbers: Numbers) -> Option<Command>
+    ensures { result ≡ command_with name numbers }
 {
-    let Numbers::One(core) = numbers_in(bytes)? else {
-        return None;
-    };
-    Some(Command::Step(core))
-}
-
-fn new_in(bytes: &[u8]) -> Option<Command>
-    ensures { result ≡ option_and_then new_command (numbers_of bytes.now) }
-{
-    match numbers_in(bytes)? {
-        Numbers::One(_) => None,
-        Numbers::Two(cores, bytes) => Some(Command::New {
+    match (name, numbers) {
+        (CommandName::New, Numbers::Two(cores, bytes)) => Some(Command::New {
             cores,
             bytes,
             entries: None,
         }),
-        Numbers::Three(cores, bytes, entries) => Some(Command::New {
+        (CommandName::New, Numbers::Three(cores, bytes, entries)) => Some(Command::New {
             cores,
             bytes,
             entries: Some(entries),
         }),
+        (CommandName::Step, Numbers::One(core)) => Some(Command::Step(core)),
+        (CommandName::Poke, Numbers::Two(a, v)) => Some(Command::Poke(GuestAddress(a), v)),
+        (CommandName::Show, Numbers::One(a)) => Some(Command::Show(GuestAddress(a))),
+        _ => None,
     }
 }
 
@@ -144,36 +130,28 @@ fn too_long(line: &[u8]) -> bool
 }
 
 // The command that a line is, if it is understood.
+#[tactic(auto, unfolding(crate::specs::Grammar::command_of))]
 pub fn read_line(line: &[u8]) -> Option<Command>
     ensures { result ≡ command_of line.now }
 {
     if too_long(line) {
         return None;
     }
-    if let Some(rest) = line.strip_prefix(b"step ") {
-        return step_in(rest);
+    match command_said(line)? {
+        (CommandName::Give, rest) => give_in(rest),
+        (name, rest) => command_with(name, numbers_in(rest)?),
     }
-    if let Some(rest) = line.strip_prefix(b"give ") {
-        return give_in(rest);
-    }
-    if let Some(rest) = line.strip_prefix(b"show ") {
-        return address_in(rest).map(Command::Show);
-    }
-    if let Some(rest) = line.strip_prefix(b"poke ") {
-        return address_and_value_in(rest).map(|(a, v)| Command::Poke(a, v));
-    }
-    if let Some(rest) = line.strip_prefix(b"new ") {
-        return new_in(rest);
-    }
-    None
 }
 
+// How long a step of a core with one digit is, without its newline.
+pub const SHORT_STEP: usize = STEP.len() + 2;
+
 // The core of a step, where the bytes begin with a step of a core with one digit, and its newline.
-#[tactic(auto, using(crate::proofs::ShortSteps::short_none, crate::proofs::ShortSteps::short_few, crate::proofs::ShortSteps::short_other, crate::proofs::ShortSteps::short_so))]
+#[tactic(auto, unfolding(crate::specs::Grammar::short_step))]
 pub fn short_step(bytes: &[u8]) -> Option<u32>
     ensures { result ≡ short_step bytes.now }
 {
-    match bytes.strip_prefix(b"step ")? {
+    match after_word(STEP, bytes)? {
         [digit, newline, ..] if digit.is_ascii_digit() & (*newline == b'\n') => {
             Some(u32::from(*digit - b'0'))
         }

@@ -9,8 +9,10 @@ mod effect;
 mod grammar;
 mod text;
 mod turns;
+mod words;
 
-pub use effect::{Ran, Session, no_machine, set_up};
-pub use grammar::{Command, Numbers, read_line, short_step};
+pub use effect::{Session, no_machine, set_up};
+pub use grammar::{Command, Numbers, SHORT_STEP, read_line, short_step};
 pub use text::{LineNumber, answer_line, counted_on, line_number};
 pub use turns::{Did, act, one_core_of};
+pub use words::number_word;

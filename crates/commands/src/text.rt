@@ -1,10 +1,12 @@
 // The line that an answer is written as.
-ghost use Rattle.std.specs.Prelude.{◌≡◌, ◌+◌, ◌≤◌, ◌++◌, length};
+ghost use Rattle.std.specs.Prelude.{◌≡◌, ◌+◌, ◌≤◌, [], ◌∷◌, ◌++◌, length, Ok};
+ghost use Rattle.rules.specs.declared.answers.Answer.TheVariants.{Done};
 ghost use Rattle.commands.specs.Bytes.{put_in};
 ghost use Rattle.commands.specs.Decimal.{decimal};
 ghost use Rattle.commands.specs.Texts.{
+  values_text,
   number_text,
-  words_of,
+  answer_words,
   rest_of,
   line_put,
   line_end,
@@ -17,29 +19,58 @@ ghost use Rattle.commands.specs.Texts.{
 
 use crate::bytes::put;
 use crate::decimal::put_decimal;
-use machine::{Answer, Refusal, number_of};
+use crate::words::{LL, LOAD, SC, STORE};
+use machine::{Answer, Delivered, Refusal, number_of};
 
 // `out` and `at` stay two parameters: the public `answer_line` takes the two, its clauses `text`, `end` and `fits`
 // speak of them, and lent bytes of any length must do.
 
-// A word, and the value after it.
+// A value, after a space.
 #[tactic(auto, using(crate::proofs::Placed::value_few, crate::proofs::Placed::put_both))]
-fn put_valued(word: &[u8], value: u32, out: &mut [u8], at: usize) -> usize
-    requires { at + length word.now + 10 ≤ length out.old }
-    ensures out_after { out.new ≡ put_in (word.now ++ decimal value) at out.old }
-    ensures value { result ≡ at + length (word.now ++ decimal value) }
-    ensures upper_bound { result ≤ at + length word.now + 10 }
+fn put_value(value: u32, out: &mut [u8], at: usize) -> usize
+    requires { at + 11 ≤ length out.old }
+    ensures out_after { out.new ≡ put_in (values_text (value ∷ [])) at out.old }
+    ensures value { result ≡ at + length (values_text (value ∷ [])) }
+    ensures upper_bound { result ≤ at + 11 }
 {
-    let to = put(word, out, at);
+    let to = put(b" ", out, at);
     put_decimal(u64::from(value), out, to)
 }
 
+// A word, and its value.
+#[tactic(auto, using(crate::proofs::Placed::value_few, crate::proofs::Placed::put_both))]
+fn put_valued(word: &[u8], value: u32, out: &mut [u8], at: usize) -> usize
+    requires { at + length word.now + 11 ≤ length out.old }
+    ensures out_after { out.new ≡ put_in (word.now ++ values_text (value ∷ [])) at out.old }
+    ensures value { result ≡ at + length (word.now ++ values_text (value ∷ [])) }
+    ensures upper_bound { result ≤ at + length word.now + 11 }
+{
+    let to = put(word, out, at);
+    put_value(value, out, to)
+}
+
+// What a finished operation answers.
+#[tactic(auto, unfolding(crate::specs::Texts::answer_words))]
+fn put_delivered(delivered: Delivered, out: &mut [u8], at: usize) -> usize
+    requires { at + 15 ≤ length out.old }
+    ensures out_after { out.new ≡ put_in (answer_words (Ok (Done delivered))) at out.old }
+    ensures value { result ≡ at + length (answer_words (Ok (Done delivered))) }
+    ensures upper_bound { result ≤ at + 15 }
+{
+    match delivered {
+        Delivered::Load(v) => put_valued(LOAD.as_bytes(), v, out, at),
+        Delivered::Ll(v) => put_valued(LL.as_bytes(), v, out, at),
+        Delivered::Store => put(STORE.as_bytes(), out, at),
+        Delivered::Sc(v) => put_valued(SC.as_bytes(), v, out, at),
+    }
+}
+
 // No `Display`: it would have these arms too, and a formatter between them and the lent bytes.
-#[tactic(auto, unfolding(crate::specs::Texts::words_of))]
+#[tactic(auto, unfolding(crate::specs::Texts::answer_words))]
 fn put_words(answer: Result<Answer, Refusal>, out: &mut [u8], at: usize) -> usize
     requires { at + 15 ≤ length out.old }
-    ensures out_after { out.new ≡ put_in (words_of answer) at out.old }
-    ensures value { result ≡ at + length (words_of answer) }
+    ensures out_after { out.new ≡ put_in (answer_words answer) at out.old }
+    ensures value { result ≡ at + length (answer_words answer) }
     ensures upper_bound { result ≤ at + 15 }
 {
     match answer {
@@ -48,12 +79,9 @@ fn put_words(answer: Result<Answer, Refusal>, out: &mut [u8], at: usize) -> usiz
         Ok(Answer::Taken) => put(b"taken", out, at),
         Ok(Answer::Moved) => put(b"moved", out, at),
         Ok(Answer::Waits) => put(b"waits", out, at),
-        Ok(Answer::Load(v)) => put_valued(b"load ", v, out, at),
-        Ok(Answer::Ll(v)) => put_valued(b"ll ", v, out, at),
-        Ok(Answer::Store) => put(b"store", out, at),
-        Ok(Answer::Sc(v)) => put_valued(b"sc ", v, out, at),
+        Ok(Answer::Done(delivered)) => put_delivered(delivered, out, at),
         Ok(Answer::Poked) => put(b"poked", out, at),
-        Ok(Answer::Word(v)) => put_valued(b"word ", v, out, at),
+        Ok(Answer::Word(v)) => put_valued(b"word", v, out, at),
     }
 }
 

@@ -3,18 +3,17 @@
 ghost use Rattle.std.specs.Prelude.{◌≡◌};
 ghost use Rattle.commands.specs.Turns.{
   one_core,
-  did_outcome,
+  turn_outcome,
   give_turn,
   step_turn,
   poke_turn,
   show_turn,
   act_on,
   turn_of,
-  ran_in,
   run_in_place,
   Sound,
 };
-ghost use Rattle.commands.specs.Effect.{after, running, run_command};
+ghost use Rattle.commands.specs.Effect.{line_outcome, running, run_command};
 
 use crate::effect::{Session, set_up};
 use crate::grammar::Command;
@@ -62,7 +61,7 @@ fn step_turn(
     holders: &mut [u8],
     core: u32,
 ) -> Result<Did, Refusal>
-    ensures { did_outcome result memory.new owners.new holders.new ≡ step_turn sizes c memory.old owners.old holders.old core }
+    ensures { turn_outcome result memory.new owners.new holders.new ≡ step_turn sizes c memory.old owners.old holders.old core }
 {
     let b = sizes.bytes.min(memory.len());
     let o = sizes.entries.min(owners.len());
@@ -127,7 +126,7 @@ pub fn act(
     holders: &mut [u8],
     command: Option<Command>,
 ) -> Result<Did, Refusal>
-    ensures { did_outcome result memory.new owners.new holders.new ≡ act_on sizes c memory.old owners.old holders.old command }
+    ensures { turn_outcome result memory.new owners.new holders.new ≡ act_on sizes c memory.old owners.old holders.old command }
 {
     match command {
         None | Some(Command::New { .. }) => Err(Refusal::NotUnderstood),
@@ -147,7 +146,7 @@ fn turn(
     core: usize,
     command: Option<Command>,
 ) -> Stepped
-    ensures { after (ran_in result (running m.new)) memory.new owners.new holders.new ≡ turn_of m.old memory.old owners.old holders.old core command }
+    ensures { line_outcome result (running m.new) memory.new owners.new holders.new ≡ turn_of m.old memory.old owners.old holders.old core command }
 {
     let at = core % 8;
     match act(Sizes::of(m), m.cores[at], memory, owners, holders, command) {
@@ -172,20 +171,13 @@ impl Session {
         holders: &mut [u8],
         command: Option<Command>,
     ) -> Stepped
-        ensures outcome { after (ran_in result self.new) memory.new owners.new holders.new ≡ run_in_place self.old memory.old owners.old holders.old command }
-        ensures as_the_rules { Sound self.old → after (ran_in result self.new) memory.new owners.new holders.new ≡ run_command self.old memory.old owners.old holders.old command }
+        ensures outcome { line_outcome result self.new memory.new owners.new holders.new ≡ run_in_place self.old memory.old owners.old holders.old command }
+        ensures as_the_rules { Sound self.old → line_outcome result self.new memory.new owners.new holders.new ≡ run_command self.old memory.old owners.old holders.old command }
         ensures sound { Sound self.old → Sound self.new }
     {
         match (one_core_of(command), &mut self.machine) {
             (Some(core), Some(m)) => turn(m, memory, owners, holders, core, command),
-            _ => {
-                let ran = set_up(*self, memory, owners, holders, command);
-                *self = ran.session;
-                Stepped {
-                    answer: ran.answer,
-                    made: ran.made,
-                }
-            }
+            _ => set_up(self, memory, owners, holders, command),
         }
     }
 }

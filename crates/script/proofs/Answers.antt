@@ -5,12 +5,14 @@ use mathlib.Core.Bool.{Bool, true, false, ◌&&◌, ◌||◌, true≢false}
 use mathlib.Core.List.{List, [], ◌∷◌, ◌++◌, append_assoc}
 use Prim.Native.Nat.{ℕ, ◌+◌, ◌-◌, ◌≤◌}
 use native.Mathlib.Omega.{arith}
-use lib.ListN.{length, take, drop, length-take, length-append, length-drop}
-use lib.Seq.{take_at, drop-drop}
+use lib.ListN.{length, take, drop, length-drop}
+use lib.Seq.{take-length, take-paste, drop-drop}
 use lib.Dec.{leb, ltb}
 use borrow.Author.Tests.{le-leb, leb-true}
 use Rattle.std.specs.Prelude.{Option, None, is_some}
-use Rattle.commands.specs.Effect.{After, run_command, run_line}
+use Rattle.rules.proofs.Bools.{and₂}
+use Rattle.commands.specs.Effect.{LineOutcome, run_command, run_line}
+use Rattle.commands.specs.Bytes.{first_line, put_in}
 use Rattle.commands.specs.Grammar.{command_of}
 use Rattle.commands.specs.declared.grammar.Command.{Command}
 use Rattle.commands.specs.Texts.{answer_line, answer_put, answer_end, line_room, line_put, line_end, line_number, counted_on, digits_of}
@@ -18,20 +20,12 @@ use Rattle.commands.specs.declared.text.LineNumber.{LineNumber}
 use Rattle.commands.proofs.Numbered.{counts_on, line_put_lem, line_end_lem}
 use Rattle.script.specs.declared.answering.Event.{Event}
 use Rattle.script.specs.Output.{Work, work, after_line, text_of, texts_of}
-use Rattle.script.specs.Lines.{first_line, handed, unfinished}
+use Rattle.script.specs.Lines.{handed, unfinished}
 use Rattle.script.specs.Answering.{answer_room, can_answer, last_number, seen_of, lines_in, stopped, answer_lines}
 use Rattle.script.proofs.Cutting.{next_line, next_left}
 
-and_left : (a b : Bool) → a && b ≡ true → a ≡ true
-and_left true b e = refl
-and_left false b e = e
-
-and_right : (a b : Bool) → a && b ≡ true → b ≡ true
-and_right true b e = e
-and_right false b e = absurd (let z : ◌≡◌ {A = Bool} false true = e in let y : ◌≡◌ {A = ℕ} 0 1 = cc in omega arith)
-
 can_room : (lent at answered : ℕ) → can_answer lent at answered ≡ true → leb (at + answer_room) lent ≡ true
-can_room lent at answered e = and_left (leb (at + answer_room) lent) (ltb answered last_number) e
+can_room lent at answered e = (and₂ (leb (at + answer_room) lent) (ltb answered last_number) e).0
 
 -- where nothing can be answered, the answering stops
 pub stops_full : (watch : Bool) (w : Work) (lines : List (List ℕ)) (out : List ℕ) (at : ℕ) → can_answer (length out) at w.answered ≡ false
@@ -46,52 +40,52 @@ unfolding answer_lines
 stops_empty watch w lines out at e = rw e
 
 -- a text put in at a place with room for it
-put_taken : (out text : List ℕ) (at : ℕ) → at + length text ≤ length out → take (at + length text) (take at out ++ text ++ drop (at + length text) out) ≡ take at out ++ text
-put_taken out text at h =
-    take_at (take at out ++ text) (drop (at + length text) out) (at + length text) (length-append (take at out) text ∙ (rw length-take (omega arith)))
+put_front : (out text : List ℕ) (at : ℕ) → at + length text ≤ length out → take (at + length text) (put_in text at out) ≡ take at out ++ text
+put_front out text at h = take-paste out at text (length text) (omega arith) (omega arith) ∙ ap (λ (t : List ℕ). take at out ++ t) (take-length text)
 
 -- a line is read, and its command is run
-as_line : (w : Work) (line : List ℕ) (a : After) (command : Option Command) → a ≡ run_command w.session w.memory w.owners w.holders command → command ≡ command_of line
-    → a ≡ run_line w.session w.memory w.owners w.holders line
+as_line : (w : Work) (line : List ℕ) (o : LineOutcome) (command : Option Command) → o ≡ run_command w.session w.memory w.owners w.holders command → command ≡ command_of line
+    → o ≡ run_line w.session w.memory w.owners w.holders line
 unfolding run_line
-as_line w line a command d e = d ∙ ap (run_command w.session w.memory w.owners w.holders) e
+as_line w line o command d e = d ∙ ap (run_command w.session w.memory w.owners w.holders) e
 
-abbrev pub left_work : After → ℕ → Work
-left_work a answered = work a.ran.session a.memory a.owners a.holders answered
+abbrev pub work_left : LineOutcome → ℕ → Work
+work_left o answered = work o.session o.memory o.owners o.holders answered
 
--- a line is answered: `a` is what it left, and `out₁` up to `at₁` the output with its answer
-module _ (watch : Bool) (w : Work) (line : List ℕ) (lines : List (List ℕ)) (out : List ℕ) (at : ℕ) (a : After) (out₁ : List ℕ) (at₁ : ℕ)
+-- a line is answered: `o` is what it left, and `out₁` up to `at₁` the output with its answer
+module _ (watch : Bool) (w : Work) (line : List ℕ) (lines : List (List ℕ)) (out : List ℕ) (at : ℕ) (o : LineOutcome) (out₁ : List ℕ) (at₁ : ℕ)
     (room : can_answer (length out) at w.answered ≡ true)
-    (did : a ≡ run_line w.session w.memory w.owners w.holders line)
-    (put : out₁ ≡ answer_put (w.answered + 1) a.ran.answer out at) (ends : at₁ ≡ answer_end (w.answered + 1) a.ran.answer (length out) at) (fits : at₁ ≤ at + answer_room) where
-  next_work : after_line w line ≡ left_work a (w.answered + 1)
+    (did : o ≡ run_line w.session w.memory w.owners w.holders line)
+    (put : out₁ ≡ answer_put (w.answered + 1) o.answer out at) (ends : at₁ ≡ answer_end (w.answered + 1) o.answer (length out) at) (fits : at₁ ≤ at + answer_room) where
+  next_work : after_line w line ≡ work_left o (w.answered + 1)
   unfolding after_line
   next_work = rw (← did)
 
-  next_text : text_of w line ≡ answer_line (w.answered + 1) a.ran.answer
+  next_text : text_of w line ≡ answer_line (w.answered + 1) o.answer
   unfolding text_of
   next_text = rw (← did)
 
   -- the event goes unseen, or there is none
-  answers_on : is_some (seen_of watch a.ran.answer a.ran.made) ≡ false
-      → answer_lines watch w (line ∷ lines) out at ≡ answer_lines watch (left_work a (w.answered + 1)) lines out₁ at₁
+  answers_on : is_some (seen_of watch o.answer o.made) ≡ false
+      → answer_lines watch w (line ∷ lines) out at ≡ answer_lines watch (work_left o (w.answered + 1)) lines out₁ at₁
   unfolding answer_lines
   answers_on e = rw (room, ← did, e, put, ends, next_work)
 
-  answers_stop : is_some (seen_of watch a.ran.answer a.ran.made) ≡ true
-      → stopped (left_work a (w.answered + 1)) lines out₁ at₁ (seen_of watch a.ran.answer a.ran.made) ≡ answer_lines watch w (line ∷ lines) out at
+  answers_stop : is_some (seen_of watch o.answer o.made) ≡ true
+      → stopped (work_left o (w.answered + 1)) lines out₁ at₁ (seen_of watch o.answer o.made) ≡ answer_lines watch w (line ∷ lines) out at
   unfolding answer_lines
   answers_stop e = rw (room, ← did, e, put, ends, next_work)
 
-  texts_on : take at₁ out₁ ++ texts_of (left_work a (w.answered + 1)) lines ≡ take at out ++ texts_of w (line ∷ lines)
+  texts_on : take at₁ out₁ ++ texts_of (work_left o (w.answered + 1)) lines ≡ take at out ++ texts_of w (line ∷ lines)
   texts_on =
+      let text = answer_line (w.answered + 1) o.answer in
       let low : at + answer_room ≤ length out = leb-true (at + answer_room) (length out) (can_room (length out) at w.answered room) in
       let lr : leb (at + line_room) (length out) ≡ true = le-leb (at + line_room) (length out) (omega arith) in
-      let p : out₁ ≡ take at out ++ answer_line (w.answered + 1) a.ran.answer ++ drop (at + length (answer_line (w.answered + 1) a.ran.answer)) out = put ∙ rw lr in
-      let q : at₁ ≡ at + length (answer_line (w.answered + 1) a.ran.answer) = ends ∙ rw lr in
-      let h : at + length (answer_line (w.answered + 1) a.ran.answer) ≤ length out = omega arith in
-      let taken : take at₁ out₁ ≡ take at out ++ answer_line (w.answered + 1) a.ran.answer = rw (q, p) (put_taken out (answer_line (w.answered + 1) a.ran.answer) at h) in
-      rw (taken, next_text, next_work, append_assoc)
+      let p : out₁ ≡ put_in text at out = put ∙ rw lr in
+      let q : at₁ ≡ at + length text = ends ∙ rw lr in
+      let h : at + length text ≤ length out = omega arith in
+      let front : take at₁ out₁ ≡ take at out ++ text = rw (q, p) (put_front out text at h) in
+      rw (front, next_text, next_work, append_assoc)
 
 -- Where the answering stands: what is left from here gives what the whole gives, and the line's number has its digits.
 pub record Stands (watch : Bool) (start : Work) (input first : List ℕ) (at : ℕ) (w : Work) (next : ℕ) (out : List ℕ) (to : ℕ) (line : Option LineNumber) : Type 0 where
@@ -106,11 +100,11 @@ pub stands_first : (watch : Bool) (start : Work) (input first : List ℕ) (at : 
 stands_first watch start input first at line digits = record { outcome = refl; text = refl; left = refl; within = omega arith; digits = digits }
 
 -- What is known when one more line was answered: it goes on, or it ends there for the line's event.
-pub record Turned (watch : Bool) (start : Work) (input first : List ℕ) (at : ℕ) (a : After) (answered next : ℕ) (out : List ℕ) (to : ℕ) (line : Option LineNumber) : Type 0 where
-  pub goes_on : is_some (seen_of watch a.ran.answer a.ran.made) ≡ false → Stands watch start input first at (left_work a answered) next out to line
-  pub ends : (event : Option Event) → event ≡ seen_of watch a.ran.answer a.ran.made → is_some event ≡ true
-      → stopped (left_work a answered) (lines_in (drop next input)) out to event ≡ answer_lines watch start (lines_in input) first at
-  pub text : take to out ++ texts_of (left_work a answered) (lines_in (drop next input)) ≡ take at first ++ texts_of start (lines_in input)
+pub record Further (watch : Bool) (start : Work) (input first : List ℕ) (at : ℕ) (o : LineOutcome) (answered next : ℕ) (out : List ℕ) (to : ℕ) (line : Option LineNumber) : Type 0 where
+  pub goes_on : is_some (seen_of watch o.answer o.made) ≡ false → Stands watch start input first at (work_left o answered) next out to line
+  pub ends : (event : Option Event) → event ≡ seen_of watch o.answer o.made → is_some event ≡ true
+      → stopped (work_left o answered) (lines_in (drop next input)) out to event ≡ answer_lines watch start (lines_in input) first at
+  pub text : take to out ++ texts_of (work_left o answered) (lines_in (drop next input)) ≡ take at first ++ texts_of start (lines_in input)
   pub left : unfinished (drop next input) ≡ unfinished input
   pub within : next ≤ length input
 
@@ -119,9 +113,9 @@ module _ (watch : Bool) (start : Work) (input first : List ℕ) (at : ℕ) (w : 
     (stands : Stands watch start input first at w next out to line) (room : can_answer (length out) to w.answered ≡ true)
     (n : ℕ) (found : n ≡ length (first_line (drop next input))) (more : n + 1 ≤ length (drop next input))
     (command : Option Command) (reads : command ≡ command_of (handed (first_line (drop next input))))
-    (a : After) (runs : a ≡ run_command w.session w.memory w.owners w.holders command)
+    (o : LineOutcome) (runs : o ≡ run_command w.session w.memory w.owners w.holders command)
     (line₁ : Option LineNumber) (counted : line₁ ≡ counted_on line (w.answered + 1)) (out₁ : List ℕ) (to₁ : ℕ)
-    (put : out₁ ≡ line_put (digits_of (w.answered + 1) line₁) a.ran.answer out to) (ends : to₁ ≡ line_end (digits_of (w.answered + 1) line₁) a.ran.answer (length out) to)
+    (put : out₁ ≡ line_put (digits_of (w.answered + 1) line₁) o.answer out to) (ends : to₁ ≡ line_end (digits_of (w.answered + 1) line₁) o.answer (length out) to)
     (fits : to₁ ≤ to + 48) where
   abbrev this : List ℕ
   this = handed (first_line (drop next input))
@@ -129,8 +123,8 @@ module _ (watch : Bool) (start : Work) (input first : List ℕ) (at : ℕ) (w : 
   rest : drop (n + 1) (drop next input) ≡ drop (next + (n + 1)) input
   rest = drop-drop (n + 1) next input
 
-  did : a ≡ run_line w.session w.memory w.owners w.holders this
-  did = as_line w this a command runs reads
+  did : o ≡ run_line w.session w.memory w.owners w.holders this
+  did = as_line w this o command runs reads
 
   the_lines : lines_in (drop next input) ≡ this ∷ lines_in (drop (next + (n + 1)) input)
   the_lines = next_line (drop next input) n found more ∙ ap (λ (l : List ℕ). this ∷ lines_in l) rest
@@ -138,18 +132,18 @@ module _ (watch : Bool) (start : Work) (input first : List ℕ) (at : ℕ) (w : 
   digits₁ : line₁ ≡ line_number (w.answered + 1)
   digits₁ = counted ∙ ap (λ (l : Option LineNumber). counted_on l (w.answered + 1)) stands.digits ∙ counts_on w.answered
 
-  put₁ : out₁ ≡ answer_put (w.answered + 1) a.ran.answer out to
-  put₁ = put ∙ ap (λ (l : Option LineNumber). line_put (digits_of (w.answered + 1) l) a.ran.answer out to) digits₁ ∙ line_put_lem (w.answered + 1) a.ran.answer out to
+  put₁ : out₁ ≡ answer_put (w.answered + 1) o.answer out to
+  put₁ = put ∙ ap (λ (l : Option LineNumber). line_put (digits_of (w.answered + 1) l) o.answer out to) digits₁ ∙ line_put_lem (w.answered + 1) o.answer out to
 
-  ends₁ : to₁ ≡ answer_end (w.answered + 1) a.ran.answer (length out) to
-  ends₁ = ends ∙ ap (λ (l : Option LineNumber). line_end (digits_of (w.answered + 1) l) a.ran.answer (length out) to) digits₁ ∙ line_end_lem (w.answered + 1) a.ran.answer (length out) to
+  ends₁ : to₁ ≡ answer_end (w.answered + 1) o.answer (length out) to
+  ends₁ = ends ∙ ap (λ (l : Option LineNumber). line_end (digits_of (w.answered + 1) l) o.answer (length out) to) digits₁ ∙ line_end_lem (w.answered + 1) o.answer (length out) to
 
   fits₁ : to₁ ≤ to + answer_room
   fits₁ = omega arith
 
-  on_text : take to₁ out₁ ++ texts_of (left_work a (w.answered + 1)) (lines_in (drop (next + (n + 1)) input)) ≡ take at first ++ texts_of start (lines_in input)
+  on_text : take to₁ out₁ ++ texts_of (work_left o (w.answered + 1)) (lines_in (drop (next + (n + 1)) input)) ≡ take at first ++ texts_of start (lines_in input)
   on_text =
-      texts_on watch w this (lines_in (drop (next + (n + 1)) input)) out to a out₁ to₁ room did put₁ ends₁ fits₁
+      texts_on watch w this (lines_in (drop (next + (n + 1)) input)) out to o out₁ to₁ room did put₁ ends₁ fits₁
       ∙ ap (λ (l : List (List ℕ)). take to out ++ texts_of w l) (sym the_lines)
       ∙ stands.text
 
@@ -159,12 +153,12 @@ module _ (watch : Bool) (start : Work) (input first : List ℕ) (at : ℕ) (w : 
   on_within : next + (n + 1) ≤ length input
   on_within = let w = stands.within in omega (arith, length-drop next input)
 
-  pub turned : Turned watch start input first at a (w.answered + 1) (next + (n + 1)) out₁ to₁ line₁
-  turned =
+  pub further : Further watch start input first at o (w.answered + 1) (next + (n + 1)) out₁ to₁ line₁
+  further =
       record {
         goes_on = λ e. record {
           outcome =
-              sym (answers_on watch w this (lines_in (drop (next + (n + 1)) input)) out to a out₁ to₁ room did put₁ ends₁ fits₁ e)
+              sym (answers_on watch w this (lines_in (drop (next + (n + 1)) input)) out to o out₁ to₁ room did put₁ ends₁ fits₁ e)
               ∙ ap (λ (l : List (List ℕ)). answer_lines watch w l out to) (sym the_lines)
               ∙ stands.outcome;
           text = on_text;
@@ -173,8 +167,8 @@ module _ (watch : Bool) (start : Work) (input first : List ℕ) (at : ℕ) (w : 
           digits = digits₁;
         };
         ends = λ event is e.
-            ap (λ (v : Option Event). stopped (left_work a (w.answered + 1)) (lines_in (drop (next + (n + 1)) input)) out₁ to₁ v) is
-            ∙ answers_stop watch w this (lines_in (drop (next + (n + 1)) input)) out to a out₁ to₁ room did put₁ ends₁ fits₁ (sym (ap (λ (v : Option Event). is_some v) is) ∙ e)
+            ap (λ (v : Option Event). stopped (work_left o (w.answered + 1)) (lines_in (drop (next + (n + 1)) input)) out₁ to₁ v) is
+            ∙ answers_stop watch w this (lines_in (drop (next + (n + 1)) input)) out to o out₁ to₁ room did put₁ ends₁ fits₁ (sym (ap (λ (v : Option Event). is_some v) is) ∙ e)
             ∙ ap (λ (l : List (List ℕ)). answer_lines watch w l out to) (sym the_lines)
             ∙ stands.outcome;
         text = on_text;
@@ -183,21 +177,21 @@ module _ (watch : Bool) (start : Work) (input first : List ℕ) (at : ℕ) (w : 
       }
 
 -- the same, where the number of lines answered is known otherwise
-pub turned_to : (watch : Bool) (start : Work) (input first : List ℕ) (at : ℕ) (w : Work) (next : ℕ) (out : List ℕ) (to : ℕ) (line : Option LineNumber)
+pub further_to : (watch : Bool) (start : Work) (input first : List ℕ) (at : ℕ) (w : Work) (next : ℕ) (out : List ℕ) (to : ℕ) (line : Option LineNumber)
     → Stands watch start input first at w next out to line → can_answer (length out) to w.answered ≡ true
     → (n : ℕ) → n ≡ length (first_line (drop next input)) → n + 1 ≤ length (drop next input)
     → (command : Option Command) → command ≡ command_of (handed (first_line (drop next input)))
-    → (a : After) → a ≡ run_command w.session w.memory w.owners w.holders command
+    → (o : LineOutcome) → o ≡ run_command w.session w.memory w.owners w.holders command
     → (count : ℕ) → w.answered + 1 ≡ count
     → (line₁ : Option LineNumber) → line₁ ≡ counted_on line count → (out₁ : List ℕ) (to₁ : ℕ)
-    → out₁ ≡ line_put (digits_of count line₁) a.ran.answer out to → to₁ ≡ line_end (digits_of count line₁) a.ran.answer (length out) to → to₁ ≤ to + 48
-    → Turned watch start input first at a count (next + (n + 1)) out₁ to₁ line₁
-turned_to watch start input first at w next out to line stands room n found more command reads a runs count counts line₁ counted out₁ to₁ put ends fits =
+    → out₁ ≡ line_put (digits_of count line₁) o.answer out to → to₁ ≡ line_end (digits_of count line₁) o.answer (length out) to → to₁ ≤ to + 48
+    → Further watch start input first at o count (next + (n + 1)) out₁ to₁ line₁
+further_to watch start input first at w next out to line stands room n found more command reads o runs count counts line₁ counted out₁ to₁ put ends fits =
     subst
-    (λ (k : ℕ). line₁ ≡ counted_on line k → out₁ ≡ line_put (digits_of k line₁) a.ran.answer out to → to₁ ≡ line_end (digits_of k line₁) a.ran.answer (length out) to
-    → Turned watch start input first at a k (next + (n + 1)) out₁ to₁ line₁)
+    (λ (k : ℕ). line₁ ≡ counted_on line k → out₁ ≡ line_put (digits_of k line₁) o.answer out to → to₁ ≡ line_end (digits_of k line₁) o.answer (length out) to
+    → Further watch start input first at o k (next + (n + 1)) out₁ to₁ line₁)
     counts
-    (λ c p e. turned watch start input first at w next out to line stands room n found more command reads a runs line₁ c out₁ to₁ p e fits)
+    (λ c p e. further watch start input first at w next out to line stands room n found more command reads o runs line₁ c out₁ to₁ p e fits)
     counted put ends
 
 -- a stop after which nothing was done was for nothing

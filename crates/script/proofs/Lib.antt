@@ -1,5 +1,6 @@
 -- `script::` meets its contract.
 -- Assumes nothing.
+pub mod Whole
 pub mod Cutting
 pub mod Pieces
 pub mod Outputs

@@ -2,72 +2,22 @@
 -- Assumes nothing.
 use Rattle.std.proofs.Common.{if◌then◌else◌}
 use mathlib.Core.Path.{◌≡◌, refl, ap, sym, ◌∙◌}
-use mathlib.Core.Bool.{Bool, true, false}
-use mathlib.Core.List.{List, [], ◌∷◌, ◌++◌, map-append, append_assoc, append-nil}
+use mathlib.Core.Bool.{Bool}
+use mathlib.Core.List.{List, [], ◌∷◌, ◌++◌, map-append, append_assoc}
 use Prim.Native.Nat.{ℕ, zero, suc}
 use native.Mathlib.Omega.{arith}
 use lib.ListN.{take}
 use lib.Seq.{take-take}
-use lib.Dec.{eqb}
-use Rattle.script.proofs.Cutting.{by_test}
+use Rattle.commands.specs.Bytes.{is_newline}
+use Rattle.script.proofs.Whole.{by_test, whole_append, left_append, Plain, plain_take, plain_whole, plain_left, left_plain}
 use Rattle.script.specs.Lines.{whole_from, whole_lines, left_from, unfinished, last_line, handed, handed_on, cut_from, joined, PiecesDoNotMatter}
-
-pub whole_append : (begun a b : List ℕ) → whole_from begun (a ++ b) ≡ whole_from begun a ++ whole_from (left_from begun a) b
-whole_append begun [] b = refl
-whole_append begun (x ∷ a) b =
-    by_test
-    (λ (t : Bool). (if t then begun ∷ whole_from [] (a ++ b) else whole_from (begun ++ x ∷ []) (a ++ b))
-    ≡ (if t then begun ∷ whole_from [] a else whole_from (begun ++ x ∷ []) a) ++ whole_from (if t then left_from [] a else left_from (begun ++ x ∷ []) a) b)
-    (eqb x 10)
-    (ap (λ (l : List (List ℕ)). begun ∷ l) (whole_append [] a b))
-    (whole_append (begun ++ x ∷ []) a b)
-
-pub left-append : (begun a b : List ℕ) → left_from begun (a ++ b) ≡ left_from (left_from begun a) b
-left-append begun [] b = refl
-left-append begun (x ∷ a) b =
-    by_test
-    (λ (t : Bool). (if t then left_from [] (a ++ b) else left_from (begun ++ x ∷ []) (a ++ b)) ≡ left_from (if t then left_from [] a else left_from (begun ++ x ∷ []) a) b)
-    (eqb x 10)
-    (left-append [] a b)
-    (left-append (begun ++ x ∷ []) a b)
-
--- bytes with no newline among them
-abbrev Plain : List ℕ → Type 0
-Plain [] = Unit {0}
-Plain (b ∷ bytes) = (eqb b 10 ≡ false) × Plain bytes
-
-plain_append : (a b : List ℕ) → Plain a → Plain b → Plain (a ++ b)
-plain_append [] b p q = q
-plain_append (x ∷ a) b p q = (p.0, plain_append a b p.1 q)
-
-plain_take : (n : ℕ) (a : List ℕ) → Plain a → Plain (take n a)
-plain_take zero a p = tt
-plain_take (suc n) [] p = tt
-plain_take (suc n) (x ∷ a) p = (p.0, plain_take n a p.1)
-
-plain_whole : (begun a : List ℕ) → Plain a → whole_from begun a ≡ []
-plain_whole begun [] p = refl
-plain_whole begun (x ∷ a) p = rw p.0 (plain_whole (begun ++ x ∷ []) a p.1)
-
-plain_left : (begun a : List ℕ) → Plain a → left_from begun a ≡ begun ++ a
-plain_left begun [] p = sym (append-nil begun)
-plain_left begun (x ∷ a) p = rw p.0 (plain_left (begun ++ x ∷ []) a p.1 ∙ append_assoc begun (x ∷ []) a)
-
-left_plain : (begun bytes : List ℕ) → Plain begun → Plain (left_from begun bytes)
-left_plain begun [] p = p
-left_plain begun (b ∷ bytes) p = go (eqb b 10) refl (left_plain [] bytes tt) (λ q. left_plain (begun ++ b ∷ []) bytes q)
-  where
-    go : (t : Bool) → eqb b 10 ≡ t → Plain (left_from [] bytes) → (Plain (begun ++ b ∷ []) → Plain (left_from (begun ++ b ∷ []) bytes))
-        → Plain (if t then left_from [] bytes else left_from (begun ++ b ∷ []) bytes)
-    go true e q r = q
-    go false e q r = r (plain_append begun (b ∷ []) p (e, tt))
 
 -- what is held stands in front of a piece as it would stand in the line
 held_whole : (held piece : List ℕ) → Plain held → whole_lines (held ++ piece) ≡ whole_from held piece
 held_whole held piece p = whole_append [] held piece ∙ rw (plain_whole [] held p, plain_left [] held p)
 
 held_left : (held piece : List ℕ) → Plain held → unfinished (held ++ piece) ≡ left_from held piece
-held_left held piece p = left-append [] held piece ∙ rw (plain_left [] held p)
+held_left held piece p = left_append [] held piece ∙ rw (plain_left [] held p)
 
 -- the first bytes of a line decide what is handed on of it
 take_front : (n : ℕ) (a b : List ℕ) → take n (take n a ++ b) ≡ take n (a ++ b)
@@ -83,7 +33,7 @@ same_whole [] a b e = refl
 same_whole (x ∷ bytes) a b e =
     by_test
     (λ (t : Bool). handed_on (if t then a ∷ whole_from [] bytes else whole_from (a ++ x ∷ []) bytes) ≡ handed_on (if t then b ∷ whole_from [] bytes else whole_from (b ++ x ∷ []) bytes))
-    (eqb x 10)
+    (is_newline x)
     (ap (λ (l : List ℕ). l ∷ handed_on (whole_from [] bytes)) e)
     (same_whole bytes (a ++ x ∷ []) (b ++ x ∷ []) (handed_append a b (x ∷ []) e))
 
@@ -92,7 +42,7 @@ same_left [] a b e = e
 same_left (x ∷ bytes) a b e =
     by_test
     (λ (t : Bool). handed (if t then left_from [] bytes else left_from (a ++ x ∷ []) bytes) ≡ handed (if t then left_from [] bytes else left_from (b ++ x ∷ []) bytes))
-    (eqb x 10)
+    (is_newline x)
     refl
     (same_left bytes (a ++ x ∷ []) (b ++ x ∷ []) (handed_append a b (x ∷ []) e))
 
@@ -121,7 +71,7 @@ cut_from_lem (piece ∷ pieces) begun p =
     ∙ ap handed_on
     (sym (append_assoc (whole_from begun piece) (whole_from next (joined pieces)) (last_line (left_from next (joined pieces))))
     ∙ ap (λ (l : List (List ℕ)). l ++ last_line (left_from next (joined pieces))) (sym (whole_append begun piece (joined pieces)))
-    ∙ ap (λ (l : List ℕ). whole_from begun (piece ++ joined pieces) ++ last_line l) (sym (left-append begun piece (joined pieces))))
+    ∙ ap (λ (l : List ℕ). whole_from begun (piece ++ joined pieces) ++ last_line l) (sym (left_append begun piece (joined pieces))))
 
 pub pieces_do_not_matter : PiecesDoNotMatter
 pieces_do_not_matter pieces = cut_from_lem pieces [] tt

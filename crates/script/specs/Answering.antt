@@ -6,14 +6,13 @@ use Rattle.rules.specs.declared.answers.Answer.TheVariants.{Ready}
 use Rattle.rules.specs.declared.answers.Record.{Record}
 use Rattle.rules.specs.declared.refusals.Refusal.{Refusal}
 use Rattle.machine.specs.declared.calls.step.Stepped.{Stepped}
-use Rattle.commands.specs.Effect.{After, after}
-use Rattle.commands.specs.Turns.{ran_in}
+use Rattle.commands.specs.Effect.{LineOutcome, line_outcome}
 use Rattle.commands.specs.Texts.{answer_put, answer_end}
 use Rattle.script.specs.declared.work.Work as rust
 use Rattle.script.specs.declared.answering.Event.{Event}
 use Rattle.script.specs.declared.answering.Event.TheVariants as event
 use Rattle.script.specs.Lines.{whole_lines, handed_on}
-use Rattle.script.specs.Output.{Work, work, ran_on, after_line}
+use Rattle.script.specs.Output.{Work, work, outcome_on, after_line}
 
 -- the whole lines of some bytes, as they are handed on
 abbrev pub lines_in : List ℕ → List (List ℕ)
@@ -59,18 +58,18 @@ abbrev pub work_of : rust.Work → Work
 work_of w = work w.session w.memory w.owners w.holders w.answered
 
 -- what a command left there, and its answer with the record that it made
-abbrev pub left_by : Stepped → rust.Work → After
-left_by done w = after (ran_in done w.session) w.memory w.owners w.holders
+abbrev pub outcome_in : Stepped → rust.Work → LineOutcome
+outcome_in stepped w = line_outcome stepped w.session w.memory w.owners w.holders
 
 -- of a line: the output with its answer, where the answer ends, and the event
 abbrev pub answer_in : Work → List ℕ → List ℕ → ℕ → List ℕ
-answer_in w line out at = answer_put (w.answered + 1) (ran_on w line).ran.answer out at
+answer_in w line out at = answer_put (w.answered + 1) (outcome_on w line).answer out at
 
 abbrev pub end_in : Work → List ℕ → List ℕ → ℕ → ℕ
-end_in w line out at = answer_end (w.answered + 1) (ran_on w line).ran.answer (length out) at
+end_in w line out at = answer_end (w.answered + 1) (outcome_on w line).answer (length out) at
 
 abbrev pub event_in : Bool → Work → List ℕ → Option Event
-event_in watch w line = seen_of watch (ran_on w line).ran.answer (ran_on w line).ran.made
+event_in watch w line = seen_of watch (outcome_on w line).answer (outcome_on w line).made
 
 -- Line after line, until there is no line, or no room for another answer, or an event.
 unfoldable pub answer_lines : Bool → Work → List (List ℕ) → List ℕ → ℕ → Stopped

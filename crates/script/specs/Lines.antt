@@ -1,15 +1,11 @@
 -- How the input is cut into lines.
-use Rattle.std.specs.Prelude.{◌≡◌, List, [], ◌∷◌, ◌++◌, map, ℕ, ◌-◌, take, drop, eqb, if◌then◌else◌}
-
--- the bytes before the first newline, or all of them
-abbrev pub first_line : List ℕ → List ℕ
-first_line [] = []
-first_line (b ∷ bytes) = if eqb b 10 then [] else b ∷ first_line bytes
+use Rattle.std.specs.Prelude.{◌≡◌, List, [], ◌∷◌, ◌++◌, map, ℕ, ◌-◌, take, drop, if◌then◌else◌}
+use Rattle.commands.specs.Bytes.{is_newline}
 
 -- the lines that a newline ends; of the first of them some bytes came before
 abbrev pub whole_from : List ℕ → List ℕ → List (List ℕ)
 whole_from begun [] = []
-whole_from begun (b ∷ bytes) = if eqb b 10 then begun ∷ whole_from [] bytes else whole_from (begun ++ b ∷ []) bytes
+whole_from begun (b ∷ bytes) = if is_newline b then begun ∷ whole_from [] bytes else whole_from (begun ++ b ∷ []) bytes
 
 abbrev pub whole_lines : List ℕ → List (List ℕ)
 whole_lines bytes = whole_from [] bytes
@@ -17,7 +13,7 @@ whole_lines bytes = whole_from [] bytes
 -- the bytes after the last newline: a line that is not finished yet
 abbrev pub left_from : List ℕ → List ℕ → List ℕ
 left_from begun [] = begun
-left_from begun (b ∷ bytes) = if eqb b 10 then left_from [] bytes else left_from (begun ++ b ∷ []) bytes
+left_from begun (b ∷ bytes) = if is_newline b then left_from [] bytes else left_from (begun ++ b ∷ []) bytes
 
 abbrev pub unfinished : List ℕ → List ℕ
 unfinished bytes = left_from [] bytes

@@ -1,6 +1,6 @@
 -- What the program puts out: an answer line for each line, numbered from 1.
 use Rattle.std.specs.Prelude.{◌≡◌, List, [], ◌∷◌, ◌++◌, ℕ, ◌+◌, replicate}
-use Rattle.commands.specs.Effect.{After, run_line, no_machine}
+use Rattle.commands.specs.Effect.{LineOutcome, run_line, no_machine}
 use Rattle.commands.specs.Texts.{answer_line}
 use Rattle.commands.specs.declared.effect.Session.{Session}
 use Rattle.script.specs.Lines.{lines_of, whole_lines, unfinished, last_line, handed, handed_on, joined}
@@ -16,16 +16,16 @@ pub record Work : Type 0 where
 abbrev pub work : Session → List ℕ → List ℕ → List ℕ → ℕ → Work
 work session memory owners holders answered = record { session = session; memory = memory; owners = owners; holders = holders; answered = answered }
 
-abbrev pub ran_on : Work → List ℕ → After
-ran_on w line = run_line w.session w.memory w.owners w.holders line
+abbrev pub outcome_on : Work → List ℕ → LineOutcome
+outcome_on w line = run_line w.session w.memory w.owners w.holders line
 
 -- what a line leaves, and the text of its answer
 unfoldable pub after_line : Work → List ℕ → Work
 after_line w line =
-    work (ran_on w line).ran.session (ran_on w line).memory (ran_on w line).owners (ran_on w line).holders (w.answered + 1)
+    work (outcome_on w line).session (outcome_on w line).memory (outcome_on w line).owners (outcome_on w line).holders (w.answered + 1)
 
 unfoldable pub text_of : Work → List ℕ → List ℕ
-text_of w line = answer_line (w.answered + 1) (ran_on w line).ran.answer
+text_of w line = answer_line (w.answered + 1) (outcome_on w line).answer
 
 abbrev pub after_lines : Work → List (List ℕ) → Work
 after_lines w [] = w

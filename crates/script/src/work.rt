@@ -21,7 +21,7 @@ impl Work {
     ghost use Rattle.std.specs.Prelude.{◌≡◌};
     ghost use Rattle.commands.specs.Effect.{run_command};
     ghost use Rattle.script.specs.Output.{fresh};
-    ghost use Rattle.script.specs.Answering.{left_by, work_of};
+    ghost use Rattle.script.specs.Answering.{outcome_in, work_of};
 
     // No machine yet, and the lent buffers all 0.
     pub(crate) fn fresh() -> Work
@@ -38,7 +38,7 @@ impl Work {
 
     // Does a line's command. Nothing looks at the machine, and it is not copied, but where a `new` makes one.
     pub(crate) fn run(&mut self, command: Option<Command>) -> Stepped
-        ensures outcome { left_by result self.new ≡ run_command self.old.session self.old.memory self.old.owners self.old.holders command }
+        ensures outcome { outcome_in result self.new ≡ run_command self.old.session self.old.memory self.old.owners self.old.holders command }
         ensures answered { self.new.answered ≡ self.old.answered }
     {
         self.session.run(

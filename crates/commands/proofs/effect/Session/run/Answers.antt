@@ -1,6 +1,6 @@
 use Rattle.std.proofs.Common.{rules, ◌≡◌, ◌∙◌}
-use Rattle.commands.specs.Effect.{after, running}
-use Rattle.commands.specs.Turns.{ran_in, run_in_place}
+use Rattle.commands.specs.Effect.{line_outcome, running}
+use Rattle.commands.specs.Turns.{run_in_place}
 use Rattle.commands.proofs.Turning.{in_place_is, in_place_sound}
 use Rattle.commands.proofs.effect.Session.run.Goals as goal
 
@@ -9,7 +9,7 @@ unfolding run_in_place
 returns-in-Some-Some c =
     let a = c.args in
     let t = c.turn in
-    let outcome : after (ran_in t.result (running t.new.m)) t.new.memory t.new.owners t.new.holders ≡ run_in_place a.self.now a.memory.now a.owners.now a.holders.now a.command = search rules in
+    let outcome : line_outcome t.result (running t.new.m) t.new.memory t.new.owners t.new.holders ≡ run_in_place a.self.now a.memory.now a.owners.now a.holders.now a.command = search rules in
     record {
       outcome = outcome;
       as_the_rules = λ s. outcome ∙ in_place_is a.self.now a.memory.now a.owners.now a.holders.now a.command s;
@@ -20,10 +20,10 @@ pub returns-in_default : goal.returns-in_default
 unfolding run_in_place
 returns-in_default c =
     let a = c.args in
-    let t = c.set_up-ran in
-    let outcome : after t.result t.new.memory t.new.owners t.new.holders ≡ run_in_place a.self.now a.memory.now a.owners.now a.holders.now a.command = search rules in
+    let t = c.set_up in
+    let outcome : line_outcome t.result t.new.session t.new.memory t.new.owners t.new.holders ≡ run_in_place a.self.now a.memory.now a.owners.now a.holders.now a.command = search rules in
     record {
       outcome = outcome;
       as_the_rules = λ s. outcome ∙ in_place_is a.self.now a.memory.now a.owners.now a.holders.now a.command s;
-      sound = λ s. in_place_sound a.self.now t.result.session a.memory.now a.owners.now a.holders.now a.command (record { answer = t.result.answer; made = t.result.made }) t.new.memory t.new.owners t.new.holders outcome s;
+      sound = λ s. in_place_sound a.self.now t.new.session a.memory.now a.owners.now a.holders.now a.command t.result t.new.memory t.new.owners t.new.holders outcome s;
     }

@@ -1,6 +1,6 @@
 use Rattle.std.proofs.Common.{◌∙◌, sym, arith}
 use Rattle.commands.proofs.Digits.{reading_on}
-use Rattle.commands.proofs.decimal.number_in.Goals as goal
+use Rattle.commands.proofs.decimal.number_said.Goals as goal
 
 pub loop-b-preserved : goal.loop-b-preserved
 loop-b-preserved c =

@@ -1,0 +1,12 @@
+use Rattle.std.proofs.Common.{arith, ◌∷◌, ◌∙◌}
+use Rattle.commands.specs.Bytes.{space}
+use Rattle.commands.specs.Decimal.{decimal}
+use Rattle.commands.proofs.Placed.{value_few, put_both}
+use Rattle.commands.proofs.text.put_valued.Goals as goal
+
+pub returns-clause-out_after : goal.returns-clause-out_after
+returns-clause-out_after c =
+    let a = c.args in
+    let one = c.put-to in
+    let few = value_few a.value (let h = c.ranges.value.fits in omega (arith, h)) in
+    c.put_value.ensures.out_after ∙ put_both a.word.now (space ∷ decimal a.value) a.at one.result a.out.now one.new.out one.ensures.out_after one.ensures.value (omega arith)
