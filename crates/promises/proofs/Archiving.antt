@@ -1,8 +1,8 @@
 -- The records of a run are good, and so the run can be archived.
 -- Assumes nothing.
-use Rattle.std.proofs.Common.{Option, Some, None, is_some, if◌then◌else◌}
+use Rattle.std.proofs.Common.{Option, Some, None, if◌then◌else◌}
 use mathlib.Core.Path.{◌≡◌, refl, sym, ap, subst, ◌∙◌}
-use mathlib.Core.Bool.{Bool, true, false, ◌&&◌, false≢true}
+use mathlib.Core.Bool.{Bool, true, false, ◌&&◌}
 use mathlib.Core.List.{List, [], ◌∷◌, reverse, reverse_aux}
 use Prim.Native.Nat.{ℕ, zero, suc, ◌^◌, ◌≤◌, ◌<◌}
 use native.Mathlib.Omega.{arith}
@@ -11,7 +11,7 @@ use lib.Dec.{eqb, leb}
 use borrow.Author.Tests.{eqb-true, eq-eqb, le-leb, lt-ltb}
 use Rattle.rules.specs.Word.{read_word, write_word}
 use Rattle.rules.specs.Kinds.{kind_at}
-use Rattle.rules.specs.Operations.{code_of, address_of, value_of, shape_of, kind_of, shape}
+use Rattle.rules.specs.Operations.{code_of, address_of, value_of, kind_of, shape}
 use Rattle.rules.specs.Refusals.{number_in}
 use Rattle.rules.specs.Calls.{Outcome, poke_record}
 use Rattle.rules.specs.Bytes.{Bytes}
@@ -21,13 +21,13 @@ use Rattle.rules.specs.Runs.{Call, give, step, poke, Fresh, act, after, records,
 use Rattle.rules.specs.declared.entry.GuestAddress.{GuestAddress}
 use Rattle.rules.specs.declared.entry.EntryNumber.{EntryNumber}
 use Rattle.rules.specs.declared.operations.Operation.{Operation}
+use Rattle.rules.specs.declared.operations.Operation.TheVariants as Asked
 use Rattle.rules.specs.declared.operations.Shape.{Shape}
 use Rattle.rules.specs.declared.operations.Shape.TheVariants.{Load, Locks}
 use Rattle.rules.specs.declared.operations.Locking.TheVariants.{Ll, Store, Sc}
 use Rattle.rules.specs.declared.answers.Record.{Record}
 use Rattle.rules.proofs.Accepted.{Inside, sizes_fit_lem, core_small, give_accepted, step_accepted, word_accepted}
 use Rattle.rules.specs.declared.answers.Delivered.TheVariants as Answered
-use Rattle.rules.proofs.Shapes.{shape_given}
 use Rattle.rules.proofs.Numbers.{by_zero, not_refused, start_number, give_number, step_number, poke_number}
 use Rattle.rules.proofs.Words.{word_laws}
 use Rattle.rules.proofs.Lawful.{range_laws}
@@ -62,22 +62,17 @@ GoodWholes [] = Unit {0}
 GoodWholes (w ∷ ws) = GoodWhole w × GoodWholes ws
 
 -- an operation makes records of a core's kinds, which the writer takes
-kinds_made : (operation : ℕ) (passed : Bool) (c : ℕ) → is_some (shape_of operation) ≡ true → kind_good Writing c (kind_of operation passed) ≡ leb c 7
-unfolding shape_of kind_of kind_good kind_at
-kinds_made operation passed c h = go (eqb operation 1) (eqb operation 2) (eqb operation 3) (eqb operation 4) passed h
-  where
-    go : (load ll store sc p : Bool) → is_some (if load then Some Load else if ll then Some (Locks Ll) else if store then Some (Locks Store) else if sc then Some (Locks Sc) else None) ≡ true
-        → kind_good Writing c (if load then 1 else if ll then 2 else if store then 3 else if sc then if p then 4 else 5 else 0) ≡ leb c 7
-    go true ll store sc p h = refl
-    go false true store sc p h = refl
-    go false false true sc p h = refl
-    go false false false true true h = refl
-    go false false false true false h = refl
-    go false false false false p h = absurd (false≢true h)
+kinds_made : (o : Operation) (passed : Bool) (c : ℕ) → kind_good Writing c (kind_of (code_of o) passed) ≡ leb c 7
+unfolding kind_of kind_good kind_at
+kinds_made (Asked.Load a) passed c = refl
+kinds_made (Asked.Ll a) passed c = refl
+kinds_made (Asked.Store a v) passed c = refl
+kinds_made (Asked.Sc a v) true c = refl
+kinds_made (Asked.Sc a v) false c = refl
 
 good_access : (c : ℕ) (o : Operation) (passed : Bool) (v : ℕ) → c < 8 → address_good (address_of o).0 ≡ true → v < 2 ^ 32 → GoodRecord Writing (access_of c o passed v)
 good_access c o passed v small address value =
-    record { good = rw (kinds_made (code_of o) passed c (ap is_some (shape_given o)), le-leb c 7 (omega arith), address); value = value }
+    record { good = rw (kinds_made o passed c, le-leb c 7 (omega arith), address); value = value }
 
 good_poke : (a : GuestAddress) (v : ℕ) → address_good a.0 ≡ true → v < 2 ^ 32 → GoodRecord Writing (poke_record a v)
 unfolding kind_good kind_at

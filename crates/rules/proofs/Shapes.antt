@@ -11,6 +11,7 @@ use Rattle.rules.specs.declared.operations.Shape.{Shape}
 use Rattle.rules.specs.declared.operations.Shape.TheVariants.{Load, Locks}
 use Rattle.rules.specs.declared.operations.Locking.{Locking}
 use Rattle.rules.specs.declared.operations.Locking.TheVariants.{Ll, Store, Sc}
+use Rattle.rules.proofs.Numbers.{of_both}
 
 -- an operation's number has its shape
 pub shape_given : (o : Operation) → shape_of (code_of o) ≡ Some (shape o)
@@ -34,20 +35,27 @@ shape_rule None passed = no_rule
 shape_rule (Some Load) passed = rule_of Kinds.Load
 shape_rule (Some (Locks l)) passed = locking_rule l passed
 
+-- what holds of both sides of a choice, taken twice by one test
+twice : {A B : Type 0} (P : A → B → Type 0) (t : Bool) {a c : A} {b d : B} → P a b → P c d → P (if t then a else c) (if t then b else d)
+twice P true p q = p
+twice P false p q = q
+
 -- by an operation's number
 pub rule_by_shape : (operation : ℕ) (passed : Bool) → rule_at (kind_of operation passed) ≡ shape_rule (shape_of operation) passed
 unfolding shape_of kind_of rule_at kind_at
-rule_by_shape operation passed = go (eqb operation 1) (eqb operation 2) (eqb operation 3) (eqb operation 4) passed
+rule_by_shape operation passed =
+    twice Acts (eqb operation 1) refl
+    (twice Acts (eqb operation 2) refl
+    (twice Acts (eqb operation 3) refl
+    (twice Acts (eqb operation 4) (sc passed)
+    refl)))
   where
-    go : (load ll store sc p : Bool)
-        → rule_at (if load then 1 else if ll then 2 else if store then 3 else if sc then if p then 4 else 5 else 0)
-        ≡ shape_rule (if load then Some Load else if ll then Some (Locks Ll) else if store then Some (Locks Store) else if sc then Some (Locks Sc) else None) p
-    go true ll store sc p = refl
-    go false true store sc p = refl
-    go false false true sc p = refl
-    go false false false true true = refl
-    go false false false true false = refl
-    go false false false false p = refl
+    Acts : ℕ → Option Shape → Type 0
+    Acts kind s = rule_at kind ≡ shape_rule s passed
+
+    sc : (p : Bool) → rule_at (if p then kind_number Kinds.Success else kind_number Kinds.Failure) ≡ sc_rule p
+    sc true = refl
+    sc false = refl
 
 pub rule_made : (o : Operation) (passed : Bool) → rule_at (kind_of (code_of o) passed) ≡ shape_rule (Some (shape o)) passed
 rule_made o passed = rule_by_shape (code_of o) passed ∙ ap (λ (s : Option Shape). shape_rule s passed) (shape_given o)
@@ -56,16 +64,17 @@ rule_made o passed = rule_by_shape (code_of o) passed ∙ ap (λ (s : Option Sha
 pub by_rule : (P : KindRule → Type 0) → P (rule_of Kinds.Load) → P (rule_of Kinds.Ll) → P (rule_of Kinds.Store) → P (rule_of Kinds.Success) → P (rule_of Kinds.Failure) → P (rule_of Kinds.Poke) → P no_rule
     → (kind : ℕ) → P (rule_at kind)
 unfolding rule_at kind_at
-by_rule P load ll store success failure poke none kind = go (eqb kind 1) (eqb kind 2) (eqb kind 3) (eqb kind 4) (eqb kind 5) (eqb kind 6)
+by_rule P load ll store success failure poke none kind =
+    of_both Holds (eqb kind 1) load
+    (of_both Holds (eqb kind 2) ll
+    (of_both Holds (eqb kind 3) store
+    (of_both Holds (eqb kind 4) success
+    (of_both Holds (eqb kind 5) failure
+    (of_both Holds (eqb kind 6) poke
+    none)))))
   where
-    go : (a b c d e f : Bool) → P (rule_or_none (if a then Some Kinds.Load else if b then Some Kinds.Ll else if c then Some Kinds.Store else if d then Some Kinds.Success else if e then Some Kinds.Failure else if f then Some Kinds.Poke else None))
-    go true b c d e f = load
-    go false true c d e f = ll
-    go false false true d e f = store
-    go false false false true e f = success
-    go false false false false true f = failure
-    go false false false false false true = poke
-    go false false false false false false = none
+    Holds : Option Kind → Type 0
+    Holds k = P (rule_or_none k)
 
 -- a kind's number has its row
 pub rule_numbered : (k : Kind) → rule_at (kind_number k) ≡ rule_of k
@@ -80,16 +89,19 @@ rule_numbered Kinds.Poke = refl
 -- a number is a kind's, or no kind has it
 pub by_number : (P : ℕ → Type 0) → ((k : Kind) → P (kind_number k)) → ((kind : ℕ) → rule_at kind ≡ no_rule → P kind) → (kind : ℕ) → P kind
 unfolding rule_at kind_at
-by_number P known other kind = go (eqb kind 1) refl (eqb kind 2) refl (eqb kind 3) refl (eqb kind 4) refl (eqb kind 5) refl (eqb kind 6) refl
+by_number P known other kind =
+    is Kinds.Load (λ e₁.
+    is Kinds.Ll (λ e₂.
+    is Kinds.Store (λ e₃.
+    is Kinds.Success (λ e₄.
+    is Kinds.Failure (λ e₅.
+    is Kinds.Poke (λ e₆.
+    other kind (rw (e₁, e₂, e₃, e₄, e₅, e₆))))))))
   where
-    is : (k : Kind) → eqb kind (kind_number k) ≡ true → P kind
-    is k e = subst P (sym (eqb-true kind (kind_number k) e)) (known k)
-
-    go : (a : Bool) → eqb kind 1 ≡ a → (b : Bool) → eqb kind 2 ≡ b → (c : Bool) → eqb kind 3 ≡ c → (d : Bool) → eqb kind 4 ≡ d → (e : Bool) → eqb kind 5 ≡ e → (f : Bool) → eqb kind 6 ≡ f → P kind
-    go true p b q c r d s e t f u = is Kinds.Load p
-    go false p true q c r d s e t f u = is Kinds.Ll q
-    go false p false q true r d s e t f u = is Kinds.Store r
-    go false p false q false r true s e t f u = is Kinds.Success s
-    go false p false q false r false s true t f u = is Kinds.Failure t
-    go false p false q false r false s false t true u = is Kinds.Poke u
-    go false p false q false r false s false t false u = other kind (rw (p, q, r, s, t, u))
+    -- it is this kind's, or else not
+    is : (k : Kind) → (eqb kind (kind_number k) ≡ false → P kind) → P kind
+    is k else' = go (eqb kind (kind_number k)) refl
+      where
+        go : (t : Bool) → eqb kind (kind_number k) ≡ t → P kind
+        go true e = subst P (sym (eqb-true kind (kind_number k) e)) (known k)
+        go false e = else' e
