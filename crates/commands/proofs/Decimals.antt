@@ -12,9 +12,8 @@ use lib.Dec.{eqb, ltb, leb}
 use borrow.Author.Tests.{le-leb, ltb-true, ltb-false, ne_eqb}
 use Rattle.commands.specs.Bytes.{space}
 use Rattle.commands.specs.Decimal.{largest, is_digit, digit_of, all_digits, value_from, number_from, number_said, digits_before, decimal}
-use Rattle.rules.proofs.Bools.{and₂}
-use Rattle.commands.proofs.Digits.{digit_no_space}
 use Rattle.commands.proofs.Fields.{Without}
+use Rattle.commands.proofs.Fronts.{digits_plain}
 use Rattle.commands.proofs.Written.{one_some}
 
 -- the byte of a digit
@@ -84,12 +83,6 @@ decimal_reads (suc n) l =
     let some : 1 ≤ length s = one_some (suc n) in
     let first : eqb (get_or s 0 0) 48 ≡ false = not_zero_first (suc (suc n)) (suc n) [] (omega arith) (omega arith) in
     number_is (length s) (all_digits s) (eqb (get_or s 0 0) 48) (value_from 0 s) (suc n) some (decimal_digits (suc n)) first (decimal_value (suc n)) l
-
--- no digit is a space
-digits_plain : (s : List ℕ) → all_digits s ≡ true → Without space s
-unfolding all_digits
-digits_plain [] h = refl
-digits_plain (b ∷ s) h = let k = and₂ (is_digit b) (all_digits s) h in rw (digit_no_space b k.0, digits_plain s k.1)
 
 pub decimal_plain : (n : ℕ) → Without space (decimal n)
 decimal_plain n = digits_plain (decimal n) (decimal_digits n)

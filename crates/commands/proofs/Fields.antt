@@ -9,7 +9,7 @@ use mathlib.Core.List.{List, [], ◌∷◌, ◌++◌}
 use Prim.Native.Nat.{ℕ, suc, ◌+◌, ◌<◌}
 use native.Mathlib.Omega.{arith}
 use lib.ListN.{length, get_or, take, drop, length-append}
-use lib.Seq.{take-length, take_all, take-append_seam, drop-append-add}
+use lib.Seq.{take-length, take_all, take-append_seam, take-append-add, drop-append-add}
 use lib.Dec.{eqb, ltb}
 use borrow.Author.Tests.{eqb-true, eq-eqb, ltb-true, ltb-false, lt-ltb, le-ltb}
 use Rattle.rules.proofs.Bools.{and₂}
@@ -33,6 +33,14 @@ module _ (c : ℕ) where
   place_then : (s t : List ℕ) → Without c s → place (s ++ c ∷ t) ≡ length s
   place_then [] t h = rw (eq-eqb c c refl)
   place_then (b ∷ s) t h = let k = and₂ (not (eqb b c)) (list_all (λ d. not (eqb d c)) s) h in rw (k.0, place_then s t k.1) (omega arith)
+
+  place_on : (s t : List ℕ) → Without c s → place (s ++ t) ≡ length s + place t
+  place_on [] t h = omega arith
+  place_on (b ∷ s) t h = let k = and₂ (not (eqb b c)) (list_all (λ d. not (eqb d c)) s) h in rw (k.0, place_on s t k.1) (omega arith)
+
+  -- others follow
+  pub before_on : (s t : List ℕ) → Without c s → before_first is_c (s ++ t) ≡ s ++ before_first is_c t
+  before_on s t h = rw (place_on s t h) (take-append-add s t (place t))
 
   -- no such byte follows
   pub before_alone : (s : List ℕ) → Without c s → before_first is_c s ≡ s

@@ -1,5 +1,6 @@
 pub mod Fields
 pub mod Digits
+pub mod Fronts
 pub mod Written
 pub mod Placed
 pub mod Numbered

@@ -2,22 +2,21 @@
 -- Assumes nothing.
 use Rattle.std.specs.Prelude.{Option, Some, None, IfSome, option_map, option_and_then, codes}
 use Rattle.std.specs.List.{AllByRecursion}
-use Rattle.std.proofs.lemmas.Option.{cond_some, same_Some}
+use Rattle.std.proofs.lemmas.Option.{cond_some}
 use Rattle.std.proofs.Common.{if◌then◌else◌}
 use mathlib.Core.Path.{◌≡◌, refl, ap, ◌∙◌, sym, subst}
 use mathlib.Core.Bool.{Bool, true, false, not, ◌&&◌}
 use mathlib.Core.List.{List, [], ◌∷◌, ◌++◌, append_assoc, append-nil}
 use Prim.Native.Nat.{ℕ, zero, suc, ◌+◌, ◌*◌, ◌/◌, ◌%◌, ◌≤◌}
 use native.Mathlib.Omega.{arith}
-use lib.ListN.{length, take, drop, take-append-drop}
+use lib.ListN.{length}
 use lib.Dec.{eqb, ltb, leb}
-use lib.Pointwise.{bytes_decides}
 use borrow.Author.Tests.{eqb-false, lt-ltb, not-true}
 use Rattle.rules.specs.declared.entry.GuestAddress.{GuestAddress}
 use Rattle.rules.specs.declared.operations.Operation.{Operation}
 use Rattle.rules.specs.declared.operations.Operation.TheVariants.{Load, Ll, Store, Sc}
 use Rattle.rules.specs.Entry.{nowhere}
-use Rattle.commands.specs.Bytes.{begins, after_text, space, first_field, more_fields, after_field}
+use Rattle.commands.specs.Bytes.{after_text, space, first_field, more_fields, after_field}
 use Rattle.commands.specs.Decimal.{largest, is_digit, digit_of, all_digits, value_from, number_from, number_said, number_first, decimal}
 use Rattle.commands.specs.Words.{Words, after_word, said_or, said, command_words, new_word, give_word, step_word, poke_word, show_word, operation_words}
 use Rattle.commands.specs.Grammar.{third_number, second_number, first_number, numbers_of, of_numbers, operation_with, operation_of, give_after, give_command, command_with, command_after, too_long, command_of, numbers_text, operation_text, line_of}
@@ -33,6 +32,7 @@ use Rattle.commands.specs.declared.words.OperationForm.TheVariants.{Address, Add
 use Rattle.rules.proofs.Bools.{and₂}
 use Rattle.commands.proofs.Digits.{digit_bounds}
 use Rattle.commands.proofs.Fields.{only, splits}
+use Rattle.commands.proofs.Fronts.{text_is}
 use Rattle.commands.proofs.Placed.{one_digit}
 use Rattle.commands.proofs.Written.{decimal_on}
 
@@ -139,15 +139,6 @@ unfolding numbers_of
 numbers_say s = front_says numbers_text (λ u. u) first_number first_number_says s
 
 -- bytes that begin with a word and a space
-text_is : (text s t : List ℕ) → after_text text s ≡ Some t → s ≡ text ++ t
-text_is text s t e = go (begins text s) refl e
-  where
-    go : (b : Bool) → begins text s ≡ b → (if b then Some (drop (length text) s) else None) ≡ Some t → s ≡ text ++ t
-    go false q e = absurd (cc)
-    go true q e =
-        let front : take (length text) s ≡ text = (bytes_decides (take (length text) s) text).0 q in
-        sym (take-append-drop (length text) s) ∙ ap (λ (u : List ℕ). u ++ drop (length text) s) front ∙ ap (λ (u : List ℕ). text ++ u) (same_Some (drop (length text) s) t e)
-
 pub word_is : (word s t : List ℕ) → after_word word s ≡ Some t → s ≡ word ++ space ∷ t
 word_is word s t e = go (after_text word s) refl e
   where

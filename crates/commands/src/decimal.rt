@@ -1,48 +1,59 @@
 // Decimal numbers without needless zeros, read and written.
-ghost use Rattle.std.specs.Prelude.{◌≡◌, ◌+◌, ◌≤◌, option_map, length};
-ghost use Rattle.std.specs.List.{position};
-ghost use Rattle.commands.specs.Bytes.{is_space, put_in};
-ghost use Rattle.commands.specs.Decimal.{is_digit, number_said, number_first, front, decimal};
+ghost use Rattle.std.specs.Prelude.{◌≡◌, ◌+◌, ◌<◌, ◌≤◌, true, false, option_map, length, take, slice_index};
+ghost use Rattle.commands.specs.Bytes.{put_in};
+ghost use Rattle.commands.specs.Decimal.{is_digit, all_digits, value_from, number_said, number_first, front, decimal};
 
-// The number that a field says, if it says one. No `parse`: it takes a `+` and needless zeros, which the rules'
-// numbers don't have, and wants the bytes as a `str` first.
-#[tactic(auto, using(crate::proofs::Digits::nothing, crate::proofs::Digits::needless, crate::proofs::Digits::no_digit, crate::proofs::Digits::large, crate::proofs::Digits::reading_ends))]
-fn number_said(field: &[u8]) -> Option<u32>
-    ensures { result ≡ number_said field.now }
+use crate::bytes::after_text;
+
+// The number that the digits at the front of some bytes make, and how many they are. Eleven are looked at: no number
+// that is read has more than ten.
+fn digits_first(bytes: &[u8]) -> (u64, usize)
+    ensures value { result.0 ≡ value_from 0 (take result.1 bytes.now) }
+    ensures digits { all_digits (take result.1 bytes.now) ≡ true }
+    ensures within { result.1 ≤ length bytes.now }
+    ensures few { result.1 ≤ 11 }
+    ensures stops { result.1 < 11 → result.1 < length bytes.now → is_digit (slice_index bytes.now result.1) ≡ false }
 {
-    let [first, ..] = field else {
+    let few = &bytes[..bytes.len().min(11)];
+    let mut value = 0u64;
+    for (count, b) in few.iter().enumerate() {
+        if !b.is_ascii_digit() {
+            return (value, count);
+        }
+        value = value * 10 + u64::from(*b - b'0');
+    }
+    (value, few.len())
+}
+
+// The number that some digits say, if they say one. No `parse`: it takes a `+` and needless zeros, which the rules'
+// numbers don't have, and wants the bytes as a `str` first.
+#[tactic(auto, using(crate::proofs::Digits::nothing, crate::proofs::Digits::needless, crate::proofs::Digits::large, crate::proofs::Digits::small))]
+fn number_of(digits: &[u8], value: u64) -> Option<u32>
+    requires all { all_digits digits.now ≡ true }
+    requires value { value ≡ value_from 0 digits.now }
+    ensures { result ≡ number_said digits.now }
+{
+    let [first, ..] = digits else {
         return None;
     };
-    let needless = (1 < field.len()) & (*first == b'0');
+    let needless = (1 < digits.len()) & (*first == b'0');
     if needless {
         return None;
     }
-    let mut value = 0u32;
-    for b in field {
-        if !b.is_ascii_digit() {
-            return None;
-        }
-        value = value.checked_mul(10)?.checked_add(u32::from(*b - b'0'))?;
-    }
-    Some(value)
-}
-
-// Where the first space stands, if there is one.
-fn first_space(line: &[u8]) -> Option<usize>
-    ensures { result ≡ position is_space line.now }
-{
-    line.iter().position(|b| *b == b' ')
+    u32::try_from(value).ok()
 }
 
 // A number at the front of some bytes, and what follows the space after it, if one follows.
-#[tactic(auto, unfolding(crate::specs::Decimal::number_first), using(crate::proofs::Fields::alone, crate::proofs::Fields::spaced))]
 pub(crate) fn number_first(bytes: &[u8]) -> Option<(u32, Option<&[u8]>)>
     ensures { option_map front result ≡ number_first bytes.now }
 {
-    match first_space(bytes) {
-        None => Some((number_said(bytes)?, None)),
-        Some(end) => Some((number_said(&bytes[..end])?, Some(&bytes[end + 1..]))),
+    let (value, count) = digits_first(bytes);
+    let number = number_of(&bytes[..count], value)?;
+    let others = &bytes[count..];
+    if others.is_empty() {
+        return Some((number, None));
     }
+    Some((number, Some(after_text(b" ", others)?)))
 }
 
 // How many digits a number has: `put_decimal` must know it, to begin at the last.

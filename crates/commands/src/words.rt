@@ -1,7 +1,6 @@
 // The words of the script, once: the grammar reads by these lists, and the answers and the listing of `records` print
 // by them.
 ghost use Rattle.std.specs.Prelude.{◌≡◌, map, option_map};
-ghost use Rattle.commands.specs.Bytes.{after_text};
 ghost use Rattle.commands.specs.Words.{
   after_word,
   said,
@@ -12,6 +11,7 @@ ghost use Rattle.commands.specs.Words.{
   number_word,
 };
 
+use crate::bytes::after_text;
 use machine::{GuestAddress, Kind, Operation};
 
 // A word, and what it stands for.
@@ -69,13 +69,6 @@ static OPERATIONS: [Row<OperationForm>; 4] = [
         OperationForm::AddressAndValue(Operation::Sc(NOWHERE, 0)),
     ),
 ];
-
-// What follows a text that some bytes begin with.
-fn after_text<'a>(text: &[u8], bytes: &'a [u8]) -> Option<&'a [u8]>
-    ensures { option_map (λ rest. rest.now) result ≡ after_text text.now bytes.now }
-{
-    bytes.strip_prefix(text)
-}
 
 // What follows a word, and the space after it, that some bytes begin with.
 pub(crate) fn after_word<'a>(word: &str, bytes: &'a [u8]) -> Option<&'a [u8]>
