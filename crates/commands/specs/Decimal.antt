@@ -1,4 +1,4 @@
--- Document 01, "Script program": "decimal numbers 0..4,294,967,295 without needless zeros".
+-- RULES 8, the script program: its numbers. RULES 8.4: "A number is in decimal, from 0 to 4,294,967,295, and begins with no zero that it does not need."
 use Rattle.std.specs.Prelude.{ℕ, zero, suc, ◌+◌, ◌*◌, ◌-◌, ◌/◌, ◌%◌, Bool, true, not, ◌&&◌, Option, Some, None, option_map, List, [], ◌∷◌, length, get_or, leb, ltb, eqb, if◌then◌else◌}
 use Rattle.commands.specs.Bytes.{first_field, more_fields, after_field}
 use denote.Ref.{Bor}

@@ -1,4 +1,4 @@
--- What a command does to the machine that the lines run on, and what it answers.
+-- RULES 8, the script program: what a command does to the machine that the lines run on, and what it answers.
 use Rattle.std.specs.Prelude.{ℕ, Bool, ◌&&◌, Option, Some, None, is_some, unwrap_or, Result, Err, is_ok, List, ◌++◌, length, take, drop, leb, if◌then◌else◌}
 use Rattle.std.specs.Option.{option_map_or}
 use Rattle.rules.specs.Calls.{Outcome, PokeOutcome, start_of, give_of, step_of, poke_of, show_of}
@@ -47,15 +47,15 @@ abbrev pub line_called : Called → List ℕ → List ℕ → List ℕ → LineO
 line_called called memory owners holders =
     record { answer = called.answer; made = called.made; session = running called.machine; memory = memory; owners = owners; holders = holders }
 
--- "if accepted, starts afresh; if refused, the old machine stays"
+-- RULES 8.10: "A later `new` begins afresh where it is accepted. Where it is refused, the machine before it stays."; the first does so too, with no machine before it
 abbrev pub session_started : Session → Called → Session
 session_started session called = if is_ok called.answer then running called.machine else session
 
--- a machine uses the first bytes of what is lent, as many as its sizes say; the rest stays
+-- RULES 8.7: "The machine uses the first bytes of the buffers that are lent to it", as many as its sizes say; the rest stays
 abbrev pub beside : ℕ → List ℕ → List ℕ → List ℕ
 beside used front lent = front ++ drop used lent
 
--- "The script program allows at most 16,384 and refuses more with 4."; 4 too for more than is lent
+-- RULES 3.3: "A script's machine has 16,384 bytes at most. For more, `new` is refused 4."; RULES 8.7: "a `new` that asks for more than is lent is refused 4 too"
 abbrev pub new_fits : ℕ → ℕ → ℕ → ℕ → ℕ → Bool
 new_fits bytes entries memory owners holders = leb bytes 16384 && leb bytes memory && (leb entries owners && leb entries holders)
 
@@ -76,7 +76,7 @@ new_of session memory owners holders cores bytes entries =
     then line_started session bytes entries memory owners holders (start_of cores (take bytes memory) (take entries owners) (take entries holders))
     else line_refused LentLengths session memory owners holders
 
--- "script 9, 10", 10: "script line before any accepted `new`"
+-- RULES 6.12, a line of script: "9, 10, and then its call's"; RULES 8.11: "A `new` is never answered 10. While none has been accepted, every other command is."
 abbrev pub once_begun : Session → List ℕ → List ℕ → List ℕ → (Machine → LineOutcome) → LineOutcome
 once_begun session memory owners holders run = option_map_or run session.machine (line_refused NoMachine session memory owners holders)
 
@@ -99,11 +99,11 @@ poke_line m memory owners holders a v = line_poked m memory owners holders (poke
 abbrev pub show_line : Machine → List ℕ → List ℕ → List ℕ → GuestAddress → LineOutcome
 show_line m memory owners holders a = line_called (show_of m (take m.bytes memory) a) memory owners holders
 
--- "(64 entries if left out)"
+-- RULES 8.6: "Where ENTRIES is left out, there are 64."
 abbrev pub usual_entries : ℕ
 usual_entries = 64
 
--- what a command does; a line that is no command is answered 9
+-- what a command does; RULES 8.8: "A line that is empty is answered 9, as each line is that is no command."
 unfoldable pub run_command : Session → List ℕ → List ℕ → List ℕ → Option Command → LineOutcome
 run_command session memory owners holders None = line_refused NotUnderstood session memory owners holders
 run_command session memory owners holders (Some (New cores bytes entries)) =

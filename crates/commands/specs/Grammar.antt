@@ -1,4 +1,4 @@
--- Document 01, "Script program": the commands, one a line.
+-- RULES 8, the script program: the commands, "one on each line" (RULES 8.1).
 use Rattle.std.specs.Prelude.{ℕ, ◌-◌, Bool, ◌&&◌, Option, Some, None, option_map, option_and_then, List, [], ◌∷◌, ◌++◌, length, ltb, if◌then◌else◌}
 use Rattle.rules.specs.Operations.{address_of, value_of}
 use Rattle.rules.specs.declared.entry.GuestAddress.{GuestAddress}
@@ -16,7 +16,7 @@ use Rattle.commands.specs.declared.words.CommandName.TheVariants as Name
 use Rattle.commands.specs.declared.words.OperationForm.{OperationForm}
 use Rattle.commands.specs.declared.words.OperationForm.TheVariants.{Address, AddressAndValue}
 
--- "single spaces": one to three numbers, each but the last with a space after it, and others after that
+-- RULES 8.3: "Between two fields of a line stands one space, and there is no other": one to three numbers, each but the last with a space after it, and others after that
 abbrev pub third_number : ℕ → ℕ → ℕ → Option (List ℕ) → Option Numbers
 third_number a b c None = Some (Three a b c)
 third_number a b c (Some s) = None
@@ -49,7 +49,7 @@ operation_with form numbers = None
 unfoldable pub operation_of : List ℕ → Option Operation
 operation_of s = option_and_then (λ p. option_and_then (operation_with p.0) (numbers_of p.1)) (said operation_words s)
 
--- `give CORE load|ll ADDRESS`, `give CORE store|sc ADDRESS VALUE`
+-- RULES 8.5: `give CORE load|ll ADDRESS` and `give CORE store|sc ADDRESS VALUE`
 abbrev pub give_after : ℕ → Option (List ℕ) → Option Command
 give_after core None = None
 give_after core (Some s) = option_map (Give core) (operation_of s)
@@ -57,7 +57,7 @@ give_after core (Some s) = option_map (Give core) (operation_of s)
 unfoldable pub give_command : List ℕ → Option Command
 give_command s = option_and_then (λ p. give_after p.0 p.1) (number_first s)
 
--- `new CORES BYTES [ENTRIES]`, `step CORE`, `poke ADDRESS VALUE`, `show ADDRESS`
+-- RULES 8.5: `new CORES BYTES [ENTRIES]`, `step CORE`, `poke ADDRESS VALUE` and `show ADDRESS`
 abbrev pub command_with : CommandName → Numbers → Option Command
 command_with Name.New (Two cores bytes) = Some (New cores bytes None)
 command_with Name.New (Three cores bytes entries) = Some (New cores bytes (Some entries))
@@ -71,7 +71,7 @@ abbrev pub command_after : CommandName → List ℕ → Option Command
 command_after Name.Give s = give_command s
 command_after name s = option_and_then (command_with name) (numbers_of s)
 
--- "at most 80 bytes before the newline"
+-- RULES 8.2: "A line has 80 bytes at most; its newline is not counted. A longer one is no command"
 abbrev pub too_long : List ℕ → Bool
 too_long line = ltb 80 (length line)
 

@@ -20,12 +20,12 @@ use Rattle.commands.specs.declared.grammar.Command.{Command}
 use Rattle.commands.specs.declared.grammar.Command.TheVariants.{New, Give, Step, Poke, Show}
 use Rattle.commands.specs.declared.effect.Session.{Session}
 
--- "at most 80 bytes before the newline": a longer line is the same line for the rules as its first 81 bytes
+-- RULES 8.2: "A line has 80 bytes at most": a longer line is the same line for the rules as its first 81 bytes
 abbrev pub FirstBytesDecide : Type 0
 FirstBytesDecide =
     (session : Session) (memory owners holders line : List ℕ) → run_line session memory owners holders (take 81 line) ≡ run_line session memory owners holders line
 
--- "decimal numbers 0..4,294,967,295"
+-- RULES 8.4: "A number is in decimal, from 0 to 4,294,967,295"
 abbrev pub Small : ℕ → Type 0
 Small n = n < 4294967296
 
@@ -67,11 +67,11 @@ ShortSteps = (s : List ℕ) (core : ℕ) → short_step s ≡ Some core → Shor
 abbrev pub UnderstoodIsWritten : Type 0
 UnderstoodIsWritten = (line : List ℕ) (c : Command) → command_of line ≡ Some c → line ≡ line_of c
 
--- "without needless zeros", "single spaces": two different lines are never the same command
+-- RULES 8.3: "Between two fields of a line stands one space, and there is no other"; RULES 8.4: "begins with no zero that it does not need": two different lines are never the same command
 abbrev pub OneLine : Type 0
 OneLine = (line other : List ℕ) → command_of line ≡ command_of other → (command_of line ≡ None → ⊥) → line ≡ other
 
--- "line number from 1, answer number, then" words, with single spaces between them and a newline at the end
+-- RULES 8.12: "the number of the line .. then the answer number, then words, with one space between", and a newline at the end
 pub record AnswerParts (number : ℕ) (answer : Result Answer Refusal) : Type 0 where
   pub number_first : first_field (answer_line number answer) ≡ decimal number
   pub then_answer : more_fields (answer_line number answer) ≡ true
@@ -106,7 +106,7 @@ pub record Kept (session : Session) (memory owners holders : List ℕ) (o : Line
   pub same_owners : o.owners ≡ owners
   pub same_holders : o.holders ≡ holders
 
--- "if refused, the old machine stays"
+-- RULES 8.10: "Where it is refused, the machine before it stays."
 abbrev pub RefusedNewLeaves : Type 0
 RefusedNewLeaves =
     (session : Session) (memory owners holders : List ℕ) (cores bytes entries : ℕ)
@@ -121,14 +121,14 @@ pub record Afresh (memory owners holders : List ℕ) (cores bytes entries : ℕ)
   pub new_owners : o.owners ≡ replicate entries 0 ++ drop entries owners
   pub new_holders : o.holders ≡ replicate entries 0 ++ drop entries holders
 
--- "if accepted, starts afresh"
+-- RULES 8.10, of a `new`: "begins afresh where it is accepted"
 abbrev pub AcceptedNewStartsAfresh : Type 0
 AcceptedNewStartsAfresh =
     (session : Session) (memory owners holders : List ℕ) (cores bytes entries : ℕ)
     → number_in (new_of session memory owners holders cores bytes entries).answer ≡ 0
     → Afresh memory owners holders cores bytes entries (new_of session memory owners holders cores bytes entries)
 
--- `new CORES BYTES [ENTRIES]`
+-- RULES 8.5: `new CORES BYTES [ENTRIES]`
 abbrev pub is_new : Option Command → Bool
 is_new None = false
 is_new (Some (New cores bytes entries)) = true
@@ -137,7 +137,7 @@ is_new (Some (Step core)) = false
 is_new (Some (Poke a v)) = false
 is_new (Some (Show a)) = false
 
--- "script 9, 10": a line that is not understood is answered 9 whether or not a machine stands; any other but a `new` is answered 10 where none stands
+-- RULES 6.12, a line of script: "9, 10, and then its call's": a line that is not understood is answered 9 whether or not a machine stands; any other but a `new` is answered 10 where none stands (RULES 8.11)
 pub record NineThenTen (session : Session) (memory owners holders line : List ℕ) : Type 0 where
   pub nine : command_of line ≡ None → run_line session memory owners holders line ≡ line_refused NotUnderstood session memory owners holders
   pub ten : stands session ≡ false → (command_of line ≡ None → ⊥) → is_new (command_of line) ≡ false

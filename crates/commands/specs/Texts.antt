@@ -1,4 +1,4 @@
--- Document 01, "Script program": "Each output line: line number from 1, answer number, then" words.
+-- RULES 8, the script program: its answers. RULES 8.12: "For each line there is one line of output: the number of the line, counted from 1, then the answer number, then words, with one space between."
 use Rattle.std.specs.Prelude.{ℕ, ◌+◌, ◌/◌, ◌%◌, ◌≤◌, ◌≡◌, Bool, ◌&&◌, Option, Some, None, Result, List, [], ◌∷◌, ◌++◌, length, take, replicate, leb, ltb, if◌then◌else◌}
 use Rattle.rules.specs.Answers.{values_of}
 use Rattle.rules.specs.Refusals.{number_in}
@@ -15,7 +15,7 @@ values_text [] = []
 values_text (v ∷ []) = space ∷ decimal v
 values_text (v ∷ w ∷ values) = space ∷ decimal v ++ values_text (w ∷ values)
 
--- "`refused`, `ready`, `taken`, `moved`, `waits`, `load V`, `ll V`, `store`, `sc V`, `poked` or `word V`": the answer's word, and the values that the rules give it
+-- RULES 8.13, the words: the answer's word (Words.antt), and the values that the rules give it. RULES 8.14: "V is the value, in decimal"
 unfoldable pub answer_words : Result Answer Refusal → List ℕ
 answer_words answer = answer_word answer ++ values_text (values_of answer)
 

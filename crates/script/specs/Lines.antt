@@ -1,4 +1,4 @@
--- How the input is cut into lines.
+-- RULES 8, the script program: how its input is cut into lines.
 use Rattle.std.specs.Prelude.{◌≡◌, List, [], ◌∷◌, ◌++◌, map, ℕ, ◌-◌, take, drop, if◌then◌else◌}
 use Rattle.commands.specs.Bytes.{is_newline}
 
@@ -18,7 +18,7 @@ left_from begun (b ∷ bytes) = if is_newline b then left_from [] bytes else lef
 abbrev pub unfinished : List ℕ → List ℕ
 unfinished bytes = left_from [] bytes
 
--- "a last line without a newline counts if it has any byte"
+-- RULES 8.9: "What stands after the last newline is a line too, unless it is empty."
 abbrev pub last_line : List ℕ → List (List ℕ)
 last_line [] = []
 last_line (b ∷ bytes) = (b ∷ bytes) ∷ []

@@ -74,7 +74,7 @@ impl Serving<'_> {
         Ok(())
     }
 
-    // The end of the input: a last line without a newline counts if it has any byte.
+    // The end of the input: what stands after the last newline is a line too, unless it is empty (RULES 8.9).
     fn serve_last(&mut self, rt: &HostRuntime, input: &mut Input) -> Result<(), Failure<'static>> {
         let held = input.held;
         if held == 0 {
