@@ -13,7 +13,7 @@ use Rattle.rules.specs.declared.refusals.Refusal.{Refusal}
 use Rattle.commands.specs.Bytes.{space, newline, first_field, more_fields, after_field}
 use Rattle.commands.specs.Decimal.{decimal}
 use Rattle.commands.specs.Words.{answer_word}
-use Rattle.commands.specs.Texts.{values_text, answer_words, number_text, rest_of, line_text, answer_line}
+use Rattle.commands.specs.Texts.{values_text, answer_words, words_room, number_text, rest_of, line_text, answer_line}
 use Rattle.commands.specs.Promises.{AnswerReads, AllSmall, AnswerFits}
 use Rattle.commands.proofs.Placed.{decimal_few}
 use Rattle.commands.proofs.Decimals.{decimal_plain}
@@ -23,7 +23,8 @@ use Rattle.commands.proofs.Fields.{before_then, some_then, after_then}
 text_then : (n : ℕ) (s : List ℕ) → number_text n ++ s ≡ decimal n ++ space ∷ s
 text_then n s = append_assoc (decimal n) (space ∷ []) s
 
-answer_split : (number : ℕ) (answer : Result Answer Refusal) → answer_line number answer ≡ decimal number ++ space ∷ (decimal (number_in answer) ++ space ∷ (answer_words answer ++ newline ∷ []))
+answer_split : (number : ℕ) (answer : Result Answer Refusal)
+    → answer_line number answer ≡ decimal number ++ space ∷ (decimal (number_in answer) ++ space ∷ (answer_words answer ++ newline ∷ []))
 unfolding line_text rest_of
 answer_split number answer =
     let second = number_text (number_in answer) in
@@ -55,14 +56,14 @@ values_few (v ∷ w ∷ values) h =
     let q = values_few (w ∷ values) h.1 in
     rw (length-append (decimal v) (values_text (w ∷ values))) (omega arith)
 
-word_few : (answer : Result Answer Refusal) → length (answer_word answer) + 11 * length (values_of answer) ≤ 15
+word_few : (answer : Result Answer Refusal) → length (answer_word answer) + 11 * length (values_of answer) ≤ words_room
 word_few (Err refusal) = omega arith
 word_few (Ok answer) = few answer
   where
-    few : (a : Answer) → length (answer_word (Ok a)) + 11 * length (values_of (Ok a)) ≤ 15
+    few : (a : Answer) → length (answer_word (Ok a)) + 11 * length (values_of (Ok a)) ≤ words_room
     few a = grind arith
 
-words_few : (answer : Result Answer Refusal) → AllSmall (values_of answer) → length (answer_words answer) ≤ 15
+words_few : (answer : Result Answer Refusal) → AllSmall (values_of answer) → length (answer_words answer) ≤ words_room
 unfolding answer_words
 words_few answer h =
     let p = values_few (values_of answer) h in

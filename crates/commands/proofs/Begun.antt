@@ -20,7 +20,8 @@ use Rattle.rules.specs.declared.state.Called.{Called}
 use Rattle.rules.specs.declared.refusals.Refusal.TheVariants.{LentLengths, NoMachine}
 use Rattle.commands.specs.Grammar.{command_of}
 use Rattle.machine.specs.declared.calls.step.Stepped.{Stepped}
-use Rattle.commands.specs.Effect.{LineOutcome, line_outcome, line_refused, session_started, stands, new_fits, line_started, new_of, once_begun, give_line, step_line, poke_line, show_line, run_command, run_line}
+use Rattle.commands.specs.Effect.{LineOutcome, line_outcome, line_refused, session_started, stands, new_fits, line_started, new_of}
+use Rattle.commands.specs.Effect.{once_begun, give_line, step_line, poke_line, show_line, run_command, run_line}
 use Rattle.commands.specs.Promises.{Kept, RefusedNewLeaves, Afresh, AcceptedNewStartsAfresh, is_new, NineBeforeTen}
 use Rattle.commands.specs.declared.grammar.Command.{Command}
 use Rattle.commands.specs.declared.grammar.Command.TheVariants.{New, Give, Step, Poke, Show}
@@ -98,27 +99,32 @@ pub after_new : (session : Session) (memory owners holders : List ℕ) (cores by
 unfolding new_of
 after_new session memory owners holders cores bytes entries fits called m' o' h' e session' r =
     let told : Stepped = record { answer = called.answer; made = called.made } in
-    let there : line_outcome told session' (m' ++ drop bytes memory) (o' ++ drop entries owners) (h' ++ drop entries holders) ≡ line_started session bytes entries memory owners holders (outcome called m' o' h') = rw r in
-    rw fits (there ∙ ap (line_started session bytes entries memory owners holders) e)
+    let left = line_started session bytes entries memory owners holders in
+    let there : line_outcome told session' (m' ++ drop bytes memory) (o' ++ drop entries owners) (h' ++ drop entries holders) ≡ left (outcome called m' o' h') = rw r in
+    rw fits (there ∙ ap left e)
 
 pub refused_new_leaves : RefusedNewLeaves
 refused_new_leaves session memory owners holders cores bytes entries h =
     let e = by_tests session memory owners holders cores bytes entries in
     subst (λ (o : LineOutcome). Kept session memory owners holders o) (sym e)
-    (new_keeps session memory owners holders cores bytes entries (fits session memory owners holders cores bytes entries) (λ z. h (ap (λ (o : LineOutcome). number_in o.answer) e ∙ z)))
+    (new_keeps session memory owners holders cores bytes entries (fits session memory owners holders cores bytes entries)
+    (λ z. h (ap (λ (o : LineOutcome). number_in o.answer) e ∙ z)))
 
 pub accepted_new_starts_afresh : AcceptedNewStartsAfresh
 accepted_new_starts_afresh session memory owners holders cores bytes entries h =
     let e = by_tests session memory owners holders cores bytes entries in
     subst (λ (o : LineOutcome). Afresh memory owners holders cores bytes entries o) (sym e)
-    (new_afresh session memory owners holders cores bytes entries (fits session memory owners holders cores bytes entries) refl (ap (λ (o : LineOutcome). number_in o.answer) (sym e) ∙ h))
+    (new_afresh session memory owners holders cores bytes entries (fits session memory owners holders cores bytes entries) refl
+    (ap (λ (o : LineOutcome). number_in o.answer) (sym e) ∙ h))
 
 -- no machine stands
 module _ (memory owners holders : List ℕ) where
-  none_stands : (session : Session) (run : Machine → LineOutcome) → stands session ≡ false → once_begun session memory owners holders run ≡ line_refused NoMachine session memory owners holders
+  none_stands : (session : Session) (run : Machine → LineOutcome) → stands session ≡ false
+      → once_begun session memory owners holders run ≡ line_refused NoMachine session memory owners holders
   none_stands session run b = go session.machine refl b
     where
-      go : (m : Option Machine) → session.machine ≡ m → is_some m ≡ false → option_map_or run m (line_refused NoMachine session memory owners holders) ≡ line_refused NoMachine session memory owners holders
+      go : (m : Option Machine) → session.machine ≡ m → is_some m ≡ false
+          → option_map_or run m (line_refused NoMachine session memory owners holders) ≡ line_refused NoMachine session memory owners holders
       go None e b = refl
       go (Some m) e b = absurd (true≢false b)
 

@@ -29,7 +29,8 @@ unfolding digits_before all_digits
 before_digits zero n s h = h
 before_digits (suc f) n s h = go (ltb 9 n) refl (before_digits f (n / 10) ((48 + n % 10) ∷ s) (rw (digit_is (n % 10) (omega arith)) h))
   where
-    go : (t : Bool) → ltb 9 n ≡ t → all_digits (digits_before f (n / 10) ((48 + n % 10) ∷ s)) ≡ true → all_digits (if t then digits_before f (n / 10) ((48 + n % 10) ∷ s) else (48 + n) ∷ s) ≡ true
+    go : (t : Bool) → ltb 9 n ≡ t → all_digits (digits_before f (n / 10) ((48 + n % 10) ∷ s)) ≡ true
+        → all_digits (if t then digits_before f (n / 10) ((48 + n % 10) ∷ s) else (48 + n) ∷ s) ≡ true
     go true e k = k
     go false e k = rw (digit_is n (ltb-false 9 n e)) h
 
@@ -64,11 +65,13 @@ unfolding digits_before
 not_zero_first zero n s l p = absurd (omega arith)
 not_zero_first (suc f) n s l p = go (ltb 9 n) refl (λ k. not_zero_first f (n / 10) ((48 + n % 10) ∷ s) (omega arith) (omega arith))
   where
-    go : (t : Bool) → ltb 9 n ≡ t → (9 < n → eqb (get_or (digits_before f (n / 10) ((48 + n % 10) ∷ s)) 0 0) 48 ≡ false) → eqb (get_or (if t then digits_before f (n / 10) ((48 + n % 10) ∷ s) else (48 + n) ∷ s) 0 0) 48 ≡ false
+    go : (t : Bool) → ltb 9 n ≡ t → (9 < n → eqb (get_or (digits_before f (n / 10) ((48 + n % 10) ∷ s)) 0 0) 48 ≡ false)
+        → eqb (get_or (if t then digits_before f (n / 10) ((48 + n % 10) ∷ s) else (48 + n) ∷ s) 0 0) 48 ≡ false
     go true e k = k (ltb-true 9 n e)
     go false e k = ne_eqb (48 + n) 48 (λ q. omega (arith, q, p))
 
-number_is : (count : ℕ) (digits zeroFirst : Bool) (value n : ℕ) → 1 ≤ count → digits ≡ true → zeroFirst ≡ false → value ≡ n → n < 4294967296 → number_from count digits zeroFirst value ≡ Some n
+number_is : (count : ℕ) (digits zeroFirst : Bool) (value n : ℕ) → 1 ≤ count → digits ≡ true → zeroFirst ≡ false → value ≡ n → n < 4294967296
+    → number_from count digits zeroFirst value ≡ Some n
 number_is count digits zeroFirst value n c d z v l = go (ltb 1 count)
   where
     go : (t : Bool) → (if not (eqb count 0) && digits && not (t && zeroFirst) && leb value largest then Some value else None) ≡ Some n

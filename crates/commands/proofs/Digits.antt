@@ -116,16 +116,17 @@ small s d some first l = rw (d, ne_eqb (length s) 0 (λ q. omega arith), le-leb 
 
 -- where the reading stands: digits came, and they say the value
 pub record Reading (s : List ℕ) (value count : ℕ) : Type 0 where
-  pub said : value ≡ value_from 0 (take count s)
+  pub says : value ≡ value_from 0 (take count s)
   pub digits : all_digits (take count s) ≡ true
   pub small : value < 10 ^ count
 
 pub reading_starts : (s : List ℕ) → Reading s 0 0
 unfolding value_from all_digits
-reading_starts s = record { said = refl; digits = refl; small = omega arith }
+reading_starts s = record { says = refl; digits = refl; small = omega arith }
 
 -- one more of the first m bytes
-pub reading_on : (s : List ℕ) (m value count digit : ℕ) → Reading s value count → count < length (take m s) → is_digit (get_or (take m s) count 0) ≡ true → digit ≡ get_or (take m s) count 0 - 48
+pub reading_on : (s : List ℕ) (m value count digit : ℕ) → Reading s value count → count < length (take m s)
+    → is_digit (get_or (take m s) count 0) ≡ true → digit ≡ get_or (take m s) count 0 - 48
     → Reading s (value * 10 + digit) (count + 1)
 unfolding value_from all_digits
 reading_on s m value count digit r inside d e =
@@ -133,12 +134,12 @@ reading_on s m value count digit r inside d e =
     let b = get_or (take m s) count 0 in
     let is : get_or s count 0 ≡ b = sym (get_or-take m s count 0 (omega arith)) in
     let more : take (count + 1) s ≡ take count s ++ b ∷ [] = take_more s count 0 (omega arith) ∙ ap (λ (c : ℕ). take count s ++ c ∷ []) is in
-    let says : digit_of b ≡ digit = rw (d, e) in
+    let one : digit_of b ≡ digit = rw (d, e) in
     let bounds = digit_bounds b d in
     let p = pow-succ' 10 count in
     let k = r.small in
     record {
-      said = rw (more, value_append, ← r.said) (omega (arith, says));
+      says = rw (more, value_append, ← r.says) (omega (arith, one));
       digits = rw (more, digits_append, r.digits, d);
       small = rw (add-one, p) (omega arith);
     }

@@ -76,8 +76,8 @@ module _ (c : ℕ) where
       let is = eqb-true (get_or s (place s) 0) c (passes_at_first is_c s 0 low) in
       split_at_first is_c s 0 low ∙ ap (λ (b : ℕ). before_first is_c s ++ b ∷ after_first is_c s) is
 
-  pub placed : (s : List ℕ) (n : ℕ) → position is_c s ≡ Some n → (n ≡ place s) × (n < length s)
-  placed s n e = go (ltb (place s) (length s)) refl e
+  pub place_is : (s : List ℕ) (n : ℕ) → position is_c s ≡ Some n → (n ≡ place s) × (n < length s)
+  place_is s n e = go (ltb (place s) (length s)) refl e
     where
       go : (t : Bool) → ltb (place s) (length s) ≡ t → cond t (Some (place s)) None ≡ Some n → (n ≡ place s) × (n < length s)
       go true l h = let is : n ≡ place s = cc in (is, let low = ltb-true (place s) (length s) l in omega arith)
@@ -88,4 +88,4 @@ pub alone : (s : List ℕ) → position is_space s ≡ None → (first_field s �
 alone s e = let none = ap is_some e in (sym (only space s none), none)
 
 pub spaced : (s : List ℕ) (end : ℕ) → position is_space s ≡ Some end → (first_field s ≡ take end s) × (more_fields s ≡ true) × (after_field s ≡ drop (end + 1) s) × (end < length s)
-spaced s end e = let p = placed space s end e in (rw p.0, ap is_some e, rw p.0, p.1)
+spaced s end e = let p = place_is space s end e in (rw p.0, ap is_some e, rw p.0, p.1)

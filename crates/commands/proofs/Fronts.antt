@@ -17,7 +17,7 @@ use lib.Pointwise.{bytes_decides}
 use borrow.Author.Tests.{eqb-true, eqb-false, leb-true, leb-false, ltb-true, ltb-false}
 use Rattle.rules.proofs.Bools.{and₂}
 use Rattle.commands.specs.Bytes.{begins, after_text, space, is_space, first_field, more_fields, after_field}
-use Rattle.commands.specs.Decimal.{largest, is_digit, all_digits, value_from, number_said, number_first}
+use Rattle.commands.specs.Decimal.{largest, is_digit, all_digits, value_from, number_said, number_ahead}
 use Rattle.commands.proofs.Digits.{digit_no_space, digits_append, value_append, value_rises, nothing, no_digit, needless, large, eleven, small}
 use Rattle.commands.proofs.Fields.{Without, before_on, before_alone, none_alone, before_then, some_then, after_then}
 
@@ -82,16 +82,16 @@ module _ (s : List ℕ) (count : ℕ) (digits : all_digits (take count s) ≡ tr
   field : first_field s ≡ d ++ first_field others
   field = ap first_field whole ∙ before_on space d others (digits_plain d digits)
 
-  pub front_alone : (n : ℕ) → number_said d ≡ Some n → length others ≡ 0 → Some (n, None) ≡ number_first s
-  unfolding number_first
+  pub front_alone : (n : ℕ) → number_said d ≡ Some n → length others ≡ 0 → Some (n, None) ≡ number_ahead s
+  unfolding number_ahead
   front_alone n e none =
       let h = digits_plain d digits in
       let alone : s ≡ d = sym (take_all count s (let l = length-drop count s in let k = ap length rest in omega arith)) in
       let plain : Without space s = ap (λ t. list_all (λ b. not (is_space b)) t) alone ∙ h in
       rw (before_alone space s plain, none_alone space s plain, ap number_said alone ∙ e)
 
-  pub front_then : (n : ℕ) (t : List ℕ) → number_said d ≡ Some n → after_text (space ∷ []) others ≡ Some t → Some (n, Some t) ≡ number_first s
-  unfolding number_first
+  pub front_then : (n : ℕ) (t : List ℕ) → number_said d ≡ Some n → after_text (space ∷ []) others ≡ Some t → Some (n, Some t) ≡ number_ahead s
+  unfolding number_ahead
   front_then n t e f =
       let h = digits_plain d digits in
       let spaced : s ≡ d ++ space ∷ t = whole ∙ ap (λ (u : List ℕ). d ++ u) (text_is (space ∷ []) others t f) in
@@ -101,11 +101,11 @@ module _ (s : List ℕ) (count : ℕ) (digits : all_digits (take count s) ≡ tr
       rw (first, more, after, e)
 
   module _ (within : count ≤ length s) (stops : count < 11 → count < length s → is_digit (get_or s count 0) ≡ false) where
-    pub front_none : number_said d ≡ None → None ≡ number_first s
-    unfolding number_first
+    pub front_none : number_said d ≡ None → None ≡ number_ahead s
+    unfolding number_ahead
     front_none e = go (eqb count 0) refl
       where
-        go : (t : Bool) → eqb count 0 ≡ t → None ≡ number_first s
+        go : (t : Bool) → eqb count 0 ≡ t → None ≡ number_ahead s
         go true z =
             let none = eqb-true count 0 z in
             let first : number_said (first_field s) ≡ None = no_digit_first s (λ l. rw none at (stops (omega arith) (omega arith))) in
@@ -135,8 +135,8 @@ module _ (s : List ℕ) (count : ℕ) (digits : all_digits (take count s) ≡ tr
         go false e = e
         go true e = absurd (let g = rw e at f in cc)
 
-    pub front_other : (n : ℕ) → count ≤ 11 → number_said d ≡ Some n → after_text (space ∷ []) others ≡ None → 1 ≤ length others → None ≡ number_first s
-    unfolding number_first all_digits
+    pub front_other : (n : ℕ) → count ≤ 11 → number_said d ≡ Some n → after_text (space ∷ []) others ≡ None → 1 ≤ length others → None ≡ number_ahead s
+    unfolding number_ahead all_digits
     front_other n few e f some = go others refl
       where
         there : get_or s count 0 ≡ get_or others 0 0
@@ -144,7 +144,7 @@ module _ (s : List ℕ) (count : ℕ) (digits : all_digits (take count s) ≡ tr
             let z : count + 0 ≡ count = omega arith in
             ap (λ (k : ℕ). get_or s k 0) (sym z) ∙ sym (get_or-drop count s 0 0) ∙ ap (λ (u : List ℕ). get_or u 0 0) (sym rest)
 
-        go : (t : List ℕ) → others ≡ t → None ≡ number_first s
+        go : (t : List ℕ) → others ≡ t → None ≡ number_ahead s
         go [] q = absurd (let l = ap length q in omega arith)
         go (b ∷ t) q =
             let l : length others ≡ length s - count = ap length rest ∙ length-drop count s in

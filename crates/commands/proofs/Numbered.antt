@@ -17,7 +17,8 @@ use Rattle.rules.specs.declared.refusals.Refusal.{Refusal}
 use Rattle.commands.specs.Bytes.{space, newline, put_in}
 use Rattle.commands.specs.Decimal.{decimal}
 use Rattle.commands.specs.Words.{answer_word}
-use Rattle.commands.specs.Texts.{answer_words, number_text, rest_of, line_text, line_put, line_end, answer_put, answer_end, line_number_of, can_stand, two_digits, digits_stand, line_number, counted_on, digits_of, PutBefore}
+use Rattle.commands.specs.Texts.{answer_words, words_room, rest_room, line_room, number_text, rest_of, line_text, line_put, line_end, answer_put, answer_end}
+use Rattle.commands.specs.Texts.{line_number_of, can_stand, two_digits, digits_stand, line_number, counted_on, digits_of, PutBefore}
 use Rattle.commands.specs.Promises.{DigitsAre, CountsOn}
 use Rattle.commands.specs.declared.text.LineNumber.{LineNumber}
 use Rattle.rules.proofs.Bools.{and₂}
@@ -51,7 +52,8 @@ digits_are n = go (can_stand (n / 100)) refl
     go true e =
         let low = ltb-true 0 (n / 100) (and₂ (ltb 0 (n / 100)) (ltb (n / 100) 100000000) e).0 in
         let few : length d ≤ 8 = before_few (n / 100) e in
-        let digits : take (length d) (put_in d 0 (replicate 8 0)) ≡ d = ap (take (length d)) (is_put d 0 (replicate 8 0)) ∙ take_at d (drop (0 + length d) (replicate 8 0)) (length d) refl in
+        let eight = replicate 8 0 in
+        let digits : take (length d) (put_in d 0 eight) ≡ d = ap (take (length d)) (is_put d 0 eight) ∙ take_at d (drop (0 + length d) eight) (length d) refl in
         let some = lt-ltb 0 (length d) (one_some (n / 100)) in
         rw (some, le-leb (length d) 8 few, digits) (sym (decimal_two n (omega arith)))
 
@@ -122,19 +124,21 @@ own_put number at out out₁ e₁ small p =
     rw p.bytes ((λ text five room. put_put (decimal number) text at out room), (end, omega arith))
 
 pub whole_put : (number : ℕ) (line : Option LineNumber) (at : ℕ) (out out₁ : List ℕ) (e₁ : ℕ)
-    → number < 18446744073709551616 → ((l : LineNumber) → line ≡ Some l → digits_stand l ≡ false) → Put (decimal number) at out out₁ e₁ → NumberPut (digits_of number line) at out out₁ e₁
+    → number < 18446744073709551616 → ((l : LineNumber) → line ≡ Some l → digits_stand l ≡ false)
+    → Put (decimal number) at out out₁ e₁ → NumberPut (digits_of number line) at out out₁ e₁
 unfolding digits_of
 whole_put number None at out out₁ e₁ small more p = own_put number at out out₁ e₁ small p
 whole_put number (Some l) at out out₁ e₁ small more p = rw (more l refl) (own_put number at out out₁ e₁ small p)
 
 -- what follows the number
-pub rest_put : (answer : Result Answer Refusal) (n at : ℕ) (out out₁ out₂ out₃ out₄ : List ℕ) (e₁ e₂ e₃ e₄ : ℕ) → n ≡ number_in answer → at + 28 ≤ length out
-    → Put (space ∷ []) at out out₁ e₁ → Put (number_text n) e₁ out₁ out₂ e₂ → e₂ ≤ e₁ + 11 → Put (answer_words answer) e₂ out₂ out₃ e₃ → e₃ ≤ e₂ + 15 → Put (newline ∷ []) e₃ out₃ out₄ e₄
+pub rest_put : (answer : Result Answer Refusal) (n at : ℕ) (out out₁ out₂ out₃ out₄ : List ℕ) (e₁ e₂ e₃ e₄ : ℕ) → n ≡ number_in answer → at + rest_room ≤ length out
+    → Put (space ∷ []) at out out₁ e₁ → Put (number_text n) e₁ out₁ out₂ e₂ → e₂ ≤ e₁ + 11
+    → Put (answer_words answer) e₂ out₂ out₃ e₃ → e₃ ≤ e₂ + words_room → Put (newline ∷ []) e₃ out₃ out₄ e₄
     → Put (rest_of answer) at out out₄ e₄
 unfolding rest_of
 rest_put answer n at out out₁ out₂ out₃ out₄ e₁ e₂ e₃ e₄ is room p q few r short s =
     let l₁ : length (number_text n) ≤ 11 = (let h = q.ends in omega arith) in
-    let l₂ : length (answer_words answer) ≤ 15 = (let h = r.ends in omega arith) in
+    let l₂ : length (answer_words answer) ≤ words_room = (let h = r.ends in omega arith) in
     let two = put_then (space ∷ []) (number_text n) at out out₁ out₂ e₁ e₂ p q (omega arith) in
     let three = put_then (space ∷ number_text n) (answer_words answer) at out out₂ out₃ e₂ e₃ two r (omega arith) in
     let l₃ : length (space ∷ number_text n ++ answer_words answer) ≤ 27 = rw length-append (omega arith) in
@@ -156,10 +160,10 @@ rest_some answer =
 
 -- what is known once an answer was to be written
 abbrev LinePut : List ℕ → Result Answer Refusal → ℕ → List ℕ → List ℕ → ℕ → Type 0
-LinePut digits answer at out out' end = (out' ≡ line_put digits answer out at) × ((end ≡ line_end digits answer (length out) at) × (end ≤ at + 48))
+LinePut digits answer at out out' end = (out' ≡ line_put digits answer out at) × ((end ≡ line_end digits answer (length out) at) × (end ≤ at + line_room))
 
-pub line_written : (digits : List ℕ) (answer : Result Answer Refusal) (at : ℕ) (out out₁ out₂ : List ℕ) (e₁ e₂ : ℕ) → at + 48 ≤ length out
-    → NumberPut digits at out out₁ e₁ → Put (rest_of answer) e₁ out₁ out₂ e₂ → e₂ ≤ e₁ + 28 → LinePut digits answer at out out₂ e₂
+pub line_written : (digits : List ℕ) (answer : Result Answer Refusal) (at : ℕ) (out out₁ out₂ : List ℕ) (e₁ e₂ : ℕ) → at + line_room ≤ length out
+    → NumberPut digits at out out₁ e₁ → Put (rest_of answer) e₁ out₁ out₂ e₂ → e₂ ≤ e₁ + rest_room → LinePut digits answer at out out₂ e₂
 unfolding line_text
 line_written digits answer at out out₁ out₂ e₁ e₂ room p q few =
     let rest = rest_of answer in
@@ -168,4 +172,4 @@ line_written digits answer at out out₁ out₂ e₁ e₂ room p q few =
     let end = q.ends in
     let bytes : out₂ ≡ put_in (digits ++ rest) at out = q.bytes ∙ ap (λ (j : ℕ). put_in rest j out₁) begin ∙ p.0 rest (rest_some answer) (omega arith) in
     let ends : e₂ ≡ at + length (digits ++ rest) = rw length-append (omega arith) in
-    rw (le-leb (at + 48) (length out) room) (bytes, (ends, omega arith))
+    rw (le-leb (at + line_room) (length out) room) (bytes, (ends, omega arith))

@@ -17,9 +17,10 @@ use Rattle.rules.specs.declared.operations.Operation.{Operation}
 use Rattle.rules.specs.declared.operations.Operation.TheVariants.{Load, Ll, Store, Sc}
 use Rattle.rules.specs.Entry.{nowhere}
 use Rattle.commands.specs.Bytes.{after_text, space, first_field, more_fields, after_field}
-use Rattle.commands.specs.Decimal.{largest, is_digit, digit_of, all_digits, value_from, number_from, number_said, number_first, decimal}
+use Rattle.commands.specs.Decimal.{largest, is_digit, digit_of, all_digits, value_from, number_from, number_said, number_ahead, decimal}
 use Rattle.commands.specs.Words.{Words, after_word, said_or, said, command_words, new_word, give_word, step_word, poke_word, show_word, operation_words}
-use Rattle.commands.specs.Grammar.{third_number, second_number, first_number, numbers_of, of_numbers, operation_with, operation_of, give_after, give_command, command_with, command_after, too_long, command_of, numbers_text, operation_text, line_of}
+use Rattle.commands.specs.Grammar.{after_three, after_two, after_one, numbers_of, of_numbers, operation_with, operation_in, give_after, give_command, command_with, command_after}
+use Rattle.commands.specs.Grammar.{too_long, command_of, numbers_text, operation_text, line_of}
 use Rattle.commands.specs.Promises.{UnderstoodIsWritten, OneLine}
 use Rattle.commands.specs.declared.grammar.Numbers.{Numbers}
 use Rattle.commands.specs.declared.grammar.Numbers.TheVariants.{One, Two, Three}
@@ -60,7 +61,8 @@ digit_alone : (b : ℕ) → is_digit b ≡ true → decimal (digit_of b) ≡ b �
 digit_alone b h = let d = digit_byte b h in one_digit (digit_of b) d.0 ∙ ap (λ (c : ℕ). c ∷ []) d.1
 
 -- what a field that is a number says of its bytes
-number_tests : (count : ℕ) (digits zeroFirst : Bool) (value n : ℕ) → number_from count digits zeroFirst value ≡ Some n → (digits ≡ true) × (not (ltb 1 count && zeroFirst) ≡ true) × (value ≡ n)
+number_tests : (count : ℕ) (digits zeroFirst : Bool) (value n : ℕ) → number_from count digits zeroFirst value ≡ Some n
+    → (digits ≡ true) × (not (ltb 1 count && zeroFirst) ≡ true) × (value ≡ n)
 number_tests count digits zeroFirst value n e =
     let is = cond_some (not (eqb count 0) && digits && not (ltb 1 count && zeroFirst) && leb value largest) value n e in
     let front = (and₂ (not (eqb count 0) && digits && not (ltb 1 count && zeroFirst)) (leb value largest) is.0).0 in
@@ -99,8 +101,8 @@ ahead : ℕ → Option (List ℕ) → List ℕ
 ahead n None = decimal n
 ahead n (Some t) = decimal n ++ space ∷ t
 
-first_says : (s : List ℕ) → IfSome {T = ℕ × Option (List ℕ)} (number_first s) (λ p. s ≡ ahead p.0 p.1)
-unfolding number_first ahead
+first_says : (s : List ℕ) → IfSome {T = ℕ × Option (List ℕ)} (number_ahead s) (λ p. s ≡ ahead p.0 p.1)
+unfolding number_ahead ahead
 first_says s = go (number_said (first_field s)) refl (more_fields s) refl
   where
     go : (n : Option ℕ) → number_said (first_field s) ≡ n → (m : Bool) → more_fields s ≡ m
@@ -112,31 +114,31 @@ first_says s = go (number_said (first_field s)) refl (more_fields s) refl
 -- what is read of a number and of what follows it is written so: then of the bytes that they make
 front_says : {B : Type 0} (text : B → List ℕ) (before : List ℕ → List ℕ) (read : ℕ → Option (List ℕ) → Option B)
     → ((n : ℕ) (t : Option (List ℕ)) → Written text (before (ahead n t)) (read n t))
-    → (s : List ℕ) → Written text (before s) (option_and_then (λ p. read p.0 p.1) (number_first s))
-front_says {B} text before read so s = go (number_first s) (first_says s)
+    → (s : List ℕ) → Written text (before s) (option_and_then (λ p. read p.0 p.1) (number_ahead s))
+front_says {B} text before read so s = go (number_ahead s) (first_says s)
   where
     go : (p : Option (ℕ × Option (List ℕ))) → IfSome p (λ q. s ≡ ahead q.0 q.1) → Written text (before s) (option_and_then (λ q. read q.0 q.1) p)
     go None h = tt
     go (Some q) h = let P : List ℕ → Type 0 = λ t. Written text (before t) (read q.0 q.1) in subst P (sym h) (so q.0 q.1)
 
-third_says : (a b c : ℕ) (t : Option (List ℕ)) → Written numbers_text (decimal a ++ space ∷ (decimal b ++ space ∷ ahead c t)) (third_number a b c t)
+third_says : (a b c : ℕ) (t : Option (List ℕ)) → Written numbers_text (decimal a ++ space ∷ (decimal b ++ space ∷ ahead c t)) (after_three a b c t)
 unfolding ahead
 third_says a b c None = refl
 third_says a b c (Some s) = tt
 
-second_says : (a b : ℕ) (t : Option (List ℕ)) → Written numbers_text (decimal a ++ space ∷ ahead b t) (second_number a b t)
+second_says : (a b : ℕ) (t : Option (List ℕ)) → Written numbers_text (decimal a ++ space ∷ ahead b t) (after_two a b t)
 unfolding ahead
 second_says a b None = refl
-second_says a b (Some s) = front_says numbers_text (λ u. decimal a ++ space ∷ (decimal b ++ space ∷ u)) (third_number a b) (third_says a b) s
+second_says a b (Some s) = front_says numbers_text (λ u. decimal a ++ space ∷ (decimal b ++ space ∷ u)) (after_three a b) (third_says a b) s
 
-first_number_says : (a : ℕ) (t : Option (List ℕ)) → Written numbers_text (ahead a t) (first_number a t)
+first_number_says : (a : ℕ) (t : Option (List ℕ)) → Written numbers_text (ahead a t) (after_one a t)
 unfolding ahead
 first_number_says a None = refl
-first_number_says a (Some s) = front_says numbers_text (λ u. decimal a ++ space ∷ u) (second_number a) (second_says a) s
+first_number_says a (Some s) = front_says numbers_text (λ u. decimal a ++ space ∷ u) (after_two a) (second_says a) s
 
 numbers_say : (s : List ℕ) → Written numbers_text s (numbers_of s)
 unfolding numbers_of
-numbers_say s = front_says numbers_text (λ u. u) first_number first_number_says s
+numbers_say s = front_says numbers_text (λ u. u) after_one first_number_says s
 
 -- bytes that begin with a word and a space
 pub word_is : (word s t : List ℕ) → after_word word s ≡ Some t → s ≡ word ++ space ∷ t
@@ -165,7 +167,8 @@ said_written text read (row ∷ words) so s = go (after_word row.0 s) refl (said
 operation_after : OperationForm → List ℕ → Option Operation
 operation_after form t = option_and_then (operation_with form) (numbers_of t)
 
-address_reads : (word : List ℕ) (o : Operation) → ((a : GuestAddress) → word ++ space ∷ decimal a.0 ≡ operation_text (of_numbers o a 0)) → Reads operation_text operation_after (word, Address o)
+address_reads : (word : List ℕ) (o : Operation)
+    → ((a : GuestAddress) → word ++ space ∷ decimal a.0 ≡ operation_text (of_numbers o a 0)) → Reads operation_text operation_after (word, Address o)
 unfolding operation_after
 address_reads word o e t = go (numbers_of t) (numbers_say t)
   where
@@ -175,7 +178,9 @@ address_reads word o e t = go (numbers_of t) (numbers_say t)
     go (Some (Two a v)) h = tt
     go (Some (Three a b c)) h = tt
 
-value_reads : (word : List ℕ) (o : Operation) → ((a : GuestAddress) (v : ℕ) → word ++ space ∷ (decimal a.0 ++ space ∷ decimal v) ≡ operation_text (of_numbers o a v)) → Reads operation_text operation_after (word, AddressAndValue o)
+value_reads : (word : List ℕ) (o : Operation)
+    → ((a : GuestAddress) (v : ℕ) → word ++ space ∷ (decimal a.0 ++ space ∷ decimal v) ≡ operation_text (of_numbers o a v))
+    → Reads operation_text operation_after (word, AddressAndValue o)
 unfolding operation_after
 value_reads word o e t = go (numbers_of t) (numbers_say t)
   where
@@ -198,15 +203,15 @@ operations_read = (
   ),
 )
 
-operation_written : (s : List ℕ) → Written operation_text s (operation_of s)
-unfolding operation_of operation_after
+operation_written : (s : List ℕ) → Written operation_text s (operation_in s)
+unfolding operation_in operation_after
 operation_written s = said_written operation_text operation_after operation_words operations_read s
 
 -- the commands
 give_after_says : (core : ℕ) (t : Option (List ℕ)) → Written line_of (give_word ++ space ∷ ahead core t) (give_after core t)
 unfolding ahead line_of
 give_after_says core None = tt
-give_after_says core (Some s) = go (operation_of s) (operation_written s)
+give_after_says core (Some s) = go (operation_in s) (operation_written s)
   where
     go : (o : Option Operation) → Written operation_text s o → Written line_of (give_word ++ space ∷ (decimal core ++ space ∷ s)) (option_map (Give core) o)
     go None h = tt
@@ -263,16 +268,16 @@ commands_read = (
   ),
 )
 
-line_written : (line : List ℕ) → Written line_of line (command_of line)
+command_written : (line : List ℕ) → Written line_of line (command_of line)
 unfolding command_of
-line_written line = go (too_long line)
+command_written line = go (too_long line)
   where
     go : (t : Bool) → Written line_of line (if t then None else option_and_then (λ p. command_after p.0 p.1) (said command_words line))
     go true = tt
     go false = said_written line_of command_after command_words commands_read line
 
 pub understood_is_written : UnderstoodIsWritten
-understood_is_written line c e = let P : Option Command → Type 0 = Written line_of line in subst P e (line_written line)
+understood_is_written line c e = let P : Option Command → Type 0 = Written line_of line in subst P e (command_written line)
 
 pub one_line : OneLine
 one_line line other e u = go (command_of line) refl

@@ -73,7 +73,8 @@ digits_few (suc f) n zero s h = go (ltb 9 n) refl
     go false e = omega arith
 digits_few (suc f) n (suc k) s h = go (ltb 9 n) (digits_few f (n / 10) k ((48 + n % 10) ∷ s) (let p = rw (pow-succ' 10 (suc k)) at h in omega (arith, p)))
   where
-    go : (t : Bool) → length (digits_before f (n / 10) ((48 + n % 10) ∷ s)) ≤ suc k + length ((48 + n % 10) ∷ s) → length (if t then digits_before f (n / 10) ((48 + n % 10) ∷ s) else (48 + n) ∷ s) ≤ suc (suc k) + length s
+    go : (t : Bool) → length (digits_before f (n / 10) ((48 + n % 10) ∷ s)) ≤ suc k + length ((48 + n % 10) ∷ s)
+        → length (if t then digits_before f (n / 10) ((48 + n % 10) ∷ s) else (48 + n) ∷ s) ≤ suc (suc k) + length s
     go true e = omega (arith, e)
     go false e = omega arith
 
@@ -90,7 +91,8 @@ pub record Put (text : List ℕ) (at : ℕ) (out out' : List ℕ) (end : ℕ) : 
   pub bytes : out' ≡ put_in text at out
   pub ends : end ≡ at + length text
 
-pub put_then : (s t : List ℕ) (at : ℕ) (out out₁ out₂ : List ℕ) (e₁ e₂ : ℕ) → Put s at out out₁ e₁ → Put t e₁ out₁ out₂ e₂ → at + length s + length t ≤ length out → Put (s ++ t) at out out₂ e₂
+pub put_then : (s t : List ℕ) (at : ℕ) (out out₁ out₂ : List ℕ) (e₁ e₂ : ℕ) → Put s at out out₁ e₁ → Put t e₁ out₁ out₂ e₂ → at + length s + length t ≤ length out
+    → Put (s ++ t) at out out₂ e₂
 put_then s t at out out₁ out₂ e₁ e₂ p q h =
     record {
       bytes = q.bytes ∙ rw (p.ends, p.bytes) (put_put s t at out h);
@@ -101,5 +103,6 @@ put_then s t at out out₁ out₂ e₁ e₂ p q h =
 pub value_few : (n : ℕ) → n < 4294967296 → length (decimal n) ≤ 10
 value_few n l = decimal_few n 9 (omega (arith, l))
 
-pub put_both : (s t : List ℕ) (at e : ℕ) (out out₁ : List ℕ) → out₁ ≡ put_in s at out → e ≡ at + length s → at + length s + length t ≤ length out → put_in t e out₁ ≡ put_in (s ++ t) at out
+pub put_both : (s t : List ℕ) (at e : ℕ) (out out₁ : List ℕ) → out₁ ≡ put_in s at out → e ≡ at + length s → at + length s + length t ≤ length out
+    → put_in t e out₁ ≡ put_in (s ++ t) at out
 put_both s t at e out out₁ p q h = rw (p, q) (put_put s t at out h)

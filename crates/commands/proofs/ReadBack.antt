@@ -11,9 +11,9 @@ use borrow.Author.Tests.{le-ltb}
 use Rattle.rules.specs.declared.operations.Operation.{Operation}
 use Rattle.rules.specs.declared.operations.Operation.TheVariants.{Load, Ll, Store, Sc}
 use Rattle.commands.specs.Bytes.{space}
-use Rattle.commands.specs.Decimal.{number_first, decimal}
-use Rattle.commands.specs.Words.{said, new_word, step_word, poke_word, show_word, row_of, operation_word}
-use Rattle.commands.specs.Grammar.{numbers_of, operation_of, give_command, too_long, command_of, numbers_text, numbers_taken, operation_text, line_of}
+use Rattle.commands.specs.Decimal.{number_ahead, decimal}
+use Rattle.commands.specs.Words.{said, new_word, step_word, poke_word, show_word, operation_row, operation_word}
+use Rattle.commands.specs.Grammar.{numbers_of, operation_in, give_command, too_long, command_of, numbers_text, numbers_taken, operation_text, line_of}
 use Rattle.commands.specs.Promises.{Small, SmallNumbers, SmallOperation, Writable, RoundTrip}
 use Rattle.commands.specs.declared.grammar.Numbers.{Numbers}
 use Rattle.commands.specs.declared.grammar.Numbers.TheVariants.{One, Two, Three}
@@ -24,25 +24,25 @@ use Rattle.commands.proofs.Decimals.{decimal_plain, decimal_reads}
 use Rattle.commands.proofs.Fields.{before_alone, none_alone, before_then, some_then, after_then}
 
 -- the last number of a line, and one before others
-last_number : (n : ℕ) → Small n → number_first (decimal n) ≡ Some (n, None)
-unfolding number_first
-last_number n l = let h = decimal_plain n in rw (before_alone space (decimal n) h, none_alone space (decimal n) h, decimal_reads n l)
+number_last : (n : ℕ) → Small n → number_ahead (decimal n) ≡ Some (n, None)
+unfolding number_ahead
+number_last n l = let h = decimal_plain n in rw (before_alone space (decimal n) h, none_alone space (decimal n) h, decimal_reads n l)
 
-number_then : (n : ℕ) (t : List ℕ) → Small n → number_first (decimal n ++ space ∷ t) ≡ Some (n, Some t)
-unfolding number_first
+number_then : (n : ℕ) (t : List ℕ) → Small n → number_ahead (decimal n ++ space ∷ t) ≡ Some (n, Some t)
+unfolding number_ahead
 number_then n t l =
     let h = decimal_plain n in
     rw (before_then space (decimal n) t h, some_then space (decimal n) t h, after_then space (decimal n) t h, decimal_reads n l)
 
 read_numbers : (n : Numbers) → SmallNumbers n → numbers_of (numbers_text n) ≡ Some n
 unfolding numbers_of
-read_numbers (One a) l = rw (last_number a l)
-read_numbers (Two a b) l = rw (number_then a (decimal b) l.0, last_number b l.1)
-read_numbers (Three a b c) l = rw (number_then a (decimal b ++ space ∷ decimal c) l.0, number_then b (decimal c) l.1, last_number c l.2)
+read_numbers (One a) l = rw (number_last a l)
+read_numbers (Two a b) l = rw (number_then a (decimal b) l.0, number_last b l.1)
+read_numbers (Three a b c) l = rw (number_then a (decimal b ++ space ∷ decimal c) l.0, number_then b (decimal c) l.1, number_last c l.2)
 
 -- the operation of a `give`
-read_operation : (o : Operation) → SmallOperation o → operation_of (operation_text o) ≡ Some o
-unfolding operation_of operation_text said
+read_operation : (o : Operation) → SmallOperation o → operation_in (operation_text o) ≡ Some o
+unfolding operation_in operation_text said
 read_operation (Load a) l = rw (read_numbers (One a.0) l)
 read_operation (Ll a) l = rw (read_numbers (One a.0) l)
 read_operation (Store a v) l = rw (read_numbers (Two a.0 v) l)
@@ -65,15 +65,15 @@ numbers_few (Three a b c) l =
     let r = few c l.2 in
     rw (length-append (decimal a) (space ∷ (decimal b ++ space ∷ decimal c)), length-append (decimal b) (space ∷ decimal c)) (omega (arith, p, q, r))
 
-word_few : (o : Operation) → length (operation_word o) ≤ 5
-word_few o = grind arith
+operation_word_few : (o : Operation) → length (operation_word o) ≤ 20
+operation_word_few o = grind arith
 
-operation_few : (o : Operation) → SmallOperation o → length (operation_text o) ≤ 38
+operation_few : (o : Operation) → SmallOperation o → length (operation_text o) ≤ 53
 unfolding operation_text
 operation_few o l =
-    let n = numbers_taken (row_of o).1 o in
+    let n = numbers_taken (operation_row o).1 o in
     let p = numbers_few n l in
-    let q = word_few o in
+    let q = operation_word_few o in
     rw (length-append (operation_word o) (space ∷ numbers_text n)) (omega (arith, p, q))
 
 plain_few : (word : List ℕ) (n : Numbers) → length word ≤ 4 → SmallNumbers n → length (word ++ space ∷ numbers_text n) ≤ 80

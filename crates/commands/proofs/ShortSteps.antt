@@ -26,10 +26,10 @@ unfolding line_of
 step_read d l = ap (λ (s : List ℕ). command_of (step_word ++ space ∷ s)) (sym (one_digit d l)) ∙ round_trip (Step d) (omega arith)
 
 -- what follows the word
-digit_is : (s t : List ℕ) (core : ℕ) → s ≡ step_word ++ space ∷ t → short_core t ≡ Some core → ShortStep s core
-digit_is s [] core e h = absurd (cc)
-digit_is s (digit ∷ []) core e h = absurd (cc)
-digit_is s (digit ∷ end ∷ t) core e h =
+step_is : (s t : List ℕ) (core : ℕ) → s ≡ step_word ++ space ∷ t → short_core t ≡ Some core → ShortStep s core
+step_is s [] core e h = absurd (cc)
+step_is s (digit ∷ []) core e h = absurd (cc)
+step_is s (digit ∷ end ∷ t) core e h =
     let told = cond_some (is_digit digit && is_newline end) (digit - 48) core h in
     let tests = and₂ (is_digit digit) (is_newline end) told.0 in
     let bounds = digit_bounds digit tests.0 in
@@ -47,4 +47,4 @@ short_steps s core h = go (after_word step_word s) refl h
   where
     go : (t : Option (List ℕ)) → after_word step_word s ≡ t → option_and_then short_core t ≡ Some core → ShortStep s core
     go None e h = absurd (cc)
-    go (Some t) e h = digit_is s t core (word_is step_word s t e) h
+    go (Some t) e h = step_is s t core (word_is step_word s t e) h

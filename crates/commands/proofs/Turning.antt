@@ -37,8 +37,10 @@ use Rattle.machine.specs.Step.{step_core_of, called_by_step}
 use Rattle.machine.specs.PokeShow.{poke_word_of, called_by_poke, show_word_of, called_by_show}
 use Rattle.machine.specs.Known.{picked, AsTheRules}
 use Rattle.machine.proofs.Knowing.{known_calls}
-use Rattle.commands.specs.Effect.{LineOutcome, line_outcome, beside, running, line_refused, line_called, session_started, new_fits, line_started, new_of, usual_entries, once_begun, give_line, line_stepped, step_line, line_poked, poke_line, show_line, run_command}
-use Rattle.commands.specs.Turns.{set_up, one_core, did, if_done, TurnOutcome, turn_outcome, give_turn, step_turn, poke_turn, show_turn, act_on, put_back, put_by, on_one_core, turn_of, run_in_place, Sound, LineIsDone, LinesAreDone}
+use Rattle.commands.specs.Effect.{LineOutcome, line_outcome, beside, running, line_refused, line_called, session_started, new_fits, line_started, new_of, usual_entries}
+use Rattle.commands.specs.Effect.{once_begun, give_line, line_stepped, step_line, line_poked, poke_line, show_line, run_command}
+use Rattle.commands.specs.Turns.{set_up, one_core, did, if_done, TurnOutcome, turn_outcome, give_turn, step_turn, poke_turn, show_turn, act_on}
+use Rattle.commands.specs.Turns.{put_back, put_by, on_one_core, line_in_place, run_in_place, Sound, LineIsDone, LinesAreDone}
 use Rattle.commands.specs.declared.grammar.Command.{Command}
 use Rattle.commands.specs.declared.grammar.Command.TheVariants.{New, Give, Step, Poke, Show}
 use Rattle.commands.specs.declared.effect.Session.{Session}
@@ -58,7 +60,8 @@ module _ (m : Machine) (ranges : in_ranges m ≡ true) (memory owners holders : 
   give_line_is : (core : ℕ) (o : Operation) → put_back m core (give_turn (sizes_of m) (picked m core) core o) memory owners holders ≡ give_line m memory owners holders core o
   give_line_is core o = by_give core (give_core_of (sizes_of m) (picked m core) core o) ∙ ap (λ (c : Called). line_called c memory owners holders) (rules.give_is core o)
 
-  by_step : (core : ℕ) (r : Result MicroStep Refusal) (m' o' h' : List ℕ) → put_back m core (if_done (λ t. did t.answer t.made t.core) r) m' o' h' ≡ line_called (called_by_step m core r) m' o' h'
+  by_step : (core : ℕ) (r : Result MicroStep Refusal) (m' o' h' : List ℕ)
+      → put_back m core (if_done (λ t. did t.answer t.made t.core) r) m' o' h' ≡ line_called (called_by_step m core r) m' o' h'
   by_step core (Ok t) m' o' h' = refl
   by_step core (Err refusal) m' o' h' = refl
 
@@ -68,7 +71,8 @@ module _ (m : Machine) (ranges : in_ranges m ≡ true) (memory owners holders : 
       by_step core a.step (beside m.bytes a.memory memory) (beside m.entries a.owners owners) (beside m.entries a.holders holders)
       ∙ ap (line_stepped m memory owners holders) (rules.step_is core (take m.bytes memory) (take m.entries owners) (take m.entries holders))
 
-  by_poke : (r : Result Record Refusal) (m' : List ℕ) → put_back m 0 (if_done (λ made. did Poked (Some made) (picked m 0)) r) m' owners holders ≡ line_called (called_by_poke m r) m' owners holders
+  by_poke : (r : Result Record Refusal) (m' : List ℕ)
+      → put_back m 0 (if_done (λ made. did Poked (Some made) (picked m 0)) r) m' owners holders ≡ line_called (called_by_poke m r) m' owners holders
   by_poke (Ok made) m' = λ i. record { answer = Ok Poked; made = Some made; session = running (own_core 0 i); memory = m'; owners = owners; holders = holders }
   by_poke (Err refusal) m' = refl
 
@@ -99,11 +103,13 @@ module _ (m : Machine) (ranges : in_ranges m ≡ true) (memory owners holders : 
 
 -- where no machine stands, or the command is for none
 module _ (session : Session) (memory owners holders : List ℕ) where
-  before : (o : Option ℕ) (run : Machine → LineOutcome) → (session.machine ≡ None) ⊎ (o ≡ None) → (o ≡ None → ⊥) → line_refused NoMachine session memory owners holders ≡ once_begun session memory owners holders run
+  before : (o : Option ℕ) (run : Machine → LineOutcome) → (session.machine ≡ None) ⊎ (o ≡ None) → (o ≡ None → ⊥)
+      → line_refused NoMachine session memory owners holders ≡ once_begun session memory owners holders run
   before o run (inl none) some = ap (λ (k : Option Machine). option_map_or run k (line_refused NoMachine session memory owners holders)) (sym none)
   before o run (inr none) some = absurd (some none)
 
-  setting_up : (command : Option Command) → (session.machine ≡ None) ⊎ (one_core command ≡ None) → set_up session memory owners holders command ≡ run_command session memory owners holders command
+  setting_up : (command : Option Command) → (session.machine ≡ None) ⊎ (one_core command ≡ None)
+      → set_up session memory owners holders command ≡ run_command session memory owners holders command
   unfolding set_up run_command
   setting_up None h = refl
   setting_up (Some (New cores b entries)) h = refl
@@ -183,21 +189,25 @@ module _ (session : Session) (sound : Sound session) (memory owners holders : Li
   stays_sound None = sound
   stays_sound (Some (New cores bytes entries)) = new_sound cores bytes (unwrap_or entries usual_entries)
   stays_sound (Some (Give core o)) = once_sound (λ m. give_line m memory owners holders core o) (λ m h. give_sound m core o h)
-  stays_sound (Some (Step core)) = once_sound (λ m. step_line m memory owners holders core) (λ m h. step_sound m (take m.bytes memory) (take m.entries owners) (take m.entries holders) core h)
+  stays_sound (Some (Step core)) =
+      once_sound (λ m. step_line m memory owners holders core) (λ m h. step_sound m (take m.bytes memory) (take m.entries owners) (take m.entries holders) core h)
   stays_sound (Some (Poke a v)) = once_sound (λ m. poke_line m memory owners holders a v) (λ m h. ap in_ranges (poke_same m (take m.bytes memory) a v) ∙ h)
   stays_sound (Some (Show a)) = once_sound (λ m. show_line m memory owners holders a) (λ m h. ap in_ranges (show_same m (take m.bytes memory) a) ∙ h)
 
 pub lines_are_done : LinesAreDone
 lines_are_done session memory owners holders command sound =
     record {
-      on_its_core = λ m core e one. on_its_core m (let P : Option Machine → Type 0 = λ o. IfSome o (λ n. in_ranges n ≡ true) in subst P e sound) memory owners holders command core one
+      on_its_core = λ m core e one.
+          let P : Option Machine → Type 0 = λ o. IfSome o (λ n. in_ranges n ≡ true) in
+          on_its_core m (subst P e sound) memory owners holders command core one
           ∙ ap (λ (o : Option Machine). run_command (record { machine = o }) memory owners holders command) (sym e);
       is_set_up = setting_up session memory owners holders command;
       stays_sound = stays_sound session sound memory owners holders command;
     }
 
 -- where the machine stands
-pub in_place_is : (session : Session) (memory owners holders : List ℕ) (command : Option Command) → Sound session → run_in_place session memory owners holders command ≡ run_command session memory owners holders command
+pub in_place_is : (session : Session) (memory owners holders : List ℕ) (command : Option Command) → Sound session
+    → run_in_place session memory owners holders command ≡ run_command session memory owners holders command
 unfolding run_in_place
 in_place_is session memory owners holders command sound = go session.machine refl (one_core command) refl
   where
@@ -205,7 +215,8 @@ in_place_is session memory owners holders command sound = go session.machine ref
     line = lines_are_done session memory owners holders command sound
 
     go : (o : Option Machine) → session.machine ≡ o → (one : Option ℕ) → one_core command ≡ one
-        → on_one_core o one (λ m core. turn_of m memory owners holders core command) (set_up session memory owners holders command) ≡ run_command session memory owners holders command
+        → on_one_core o one (λ m core. line_in_place m memory owners holders core command) (set_up session memory owners holders command)
+        ≡ run_command session memory owners holders command
     go (Some m) e (Some core) h = line.on_its_core m core e h
     go (Some m) e None h = line.is_set_up (inr h)
     go None e one h = line.is_set_up (inl e)

@@ -33,10 +33,10 @@ unfolding digits_before
 digits_on n s l = rw (lt-ltb 9 n l) (enough n (suc (n / 10)) (n / 10) ((48 + n % 10) ∷ s) (omega arith) (omega arith))
 
 -- what is written before other digits
-before_then : (f n : ℕ) (s t : List ℕ) → digits_before f n (s ++ t) ≡ digits_before f n s ++ t
+digits_then : (f n : ℕ) (s t : List ℕ) → digits_before f n (s ++ t) ≡ digits_before f n s ++ t
 unfolding digits_before
-before_then zero n s t = refl
-before_then (suc f) n s t = go (ltb 9 n) (before_then f (n / 10) ((48 + n % 10) ∷ s) t)
+digits_then zero n s t = refl
+digits_then (suc f) n s t = go (ltb 9 n) (digits_then f (n / 10) ((48 + n % 10) ∷ s) t)
   where
     go : (u : Bool) → digits_before f (n / 10) ((48 + n % 10) ∷ (s ++ t)) ≡ digits_before f (n / 10) ((48 + n % 10) ∷ s) ++ t
         → (if u then digits_before f (n / 10) ((48 + n % 10) ∷ (s ++ t)) else (48 + n) ∷ (s ++ t)) ≡ (if u then digits_before f (n / 10) ((48 + n % 10) ∷ s) else (48 + n) ∷ s) ++ t
@@ -46,7 +46,7 @@ before_then (suc f) n s t = go (ltb 9 n) (before_then f (n / 10) ((48 + n % 10) 
 -- a number's last digit follows the others
 pub decimal_on : (n : ℕ) → 9 < n → decimal n ≡ decimal (n / 10) ++ (48 + n % 10) ∷ []
 unfolding decimal
-decimal_on n l = digits_on n [] l ∙ before_then (suc (n / 10)) (n / 10) [] ((48 + n % 10) ∷ [])
+decimal_on n l = digits_on n [] l ∙ digits_then (suc (n / 10)) (n / 10) [] ((48 + n % 10) ∷ [])
 
 pub one_more : (n : ℕ) → 9 < n → length (decimal n) ≡ 1 + length (decimal (n / 10))
 one_more n l = rw (decimal_on n l, length-append) (omega arith)
@@ -91,7 +91,8 @@ pub record Writing (number at : ℕ) (out₀ : List ℕ) (left to : ℕ) (out : 
   pub room : to ≤ length out
   pub gives : put_in (decimal left) at out ≡ put_in (decimal number) at out₀
 
-pub writing_on : (number at : ℕ) (out₀ : List ℕ) (left to : ℕ) (out : List ℕ) → Writing number at out₀ left to out → 9 < left → Writing number at out₀ (left / 10) (to - 1) (set out (to - 1) (48 + left % 10))
+pub writing_on : (number at : ℕ) (out₀ : List ℕ) (left to : ℕ) (out : List ℕ) → Writing number at out₀ left to out → 9 < left
+    → Writing number at out₀ (left / 10) (to - 1) (set out (to - 1) (48 + left % 10))
 writing_on number at out₀ left to out w l =
     let e : to - 1 ≡ at + length (decimal (left / 10)) = let h = w.ends in let k = one_more left l in omega arith in
     let r : at + length (decimal (left / 10)) < length out = let h = w.ends in let k = one_more left l in let m = w.room in omega arith in
@@ -116,7 +117,8 @@ one_digit_left number at out₀ left to out w h = go (leb left 9) refl
     go true e = leb-true left 9 e
     go false e = absurd (let more = one_more left (leb-false left 9 e) in let some = one_some (left / 10) in let ends = w.ends in omega arith)
 
-pub writing_ends : (number at : ℕ) (out₀ : List ℕ) (left to : ℕ) (out : List ℕ) → Writing number at out₀ left to out → left ≤ 9 → set out at (48 + left) ≡ put_in (decimal number) at out₀
+pub writing_ends : (number at : ℕ) (out₀ : List ℕ) (left to : ℕ) (out : List ℕ) → Writing number at out₀ left to out → left ≤ 9
+    → set out at (48 + left) ≡ put_in (decimal number) at out₀
 writing_ends number at out₀ left to out w l =
     let n = one_in_all left l in
     let h : at < length out = let e = w.ends in let r = w.room in omega arith in

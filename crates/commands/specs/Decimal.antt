@@ -1,5 +1,6 @@
 -- RULES 8, the script program: its numbers. RULES 8.4: "A number is in decimal, from 0 to 4,294,967,295, and begins with no zero that it does not need."
-use Rattle.std.specs.Prelude.{ℕ, zero, suc, ◌+◌, ◌*◌, ◌-◌, ◌/◌, ◌%◌, Bool, true, not, ◌&&◌, Option, Some, None, option_map, List, [], ◌∷◌, length, get_or, leb, ltb, eqb, if◌then◌else◌}
+use Rattle.std.specs.Prelude.{ℕ, zero, suc, ◌+◌, ◌*◌, ◌-◌, ◌/◌, ◌%◌, Bool, true, not, ◌&&◌}
+use Rattle.std.specs.Prelude.{Option, Some, None, option_map, List, [], ◌∷◌, length, get_or, leb, ltb, eqb, if◌then◌else◌}
 use Rattle.commands.specs.Bytes.{first_field, more_fields, after_field}
 use denote.Ref.{Bor}
 
@@ -31,13 +32,13 @@ number_from count digits zeroFirst value =
 unfoldable pub number_said : List ℕ → Option ℕ
 number_said s = number_from (length s) (all_digits s) (eqb (get_or s 0 0) 48) (value_from 0 s)
 
--- a number at the front of some bytes, and what follows the space after it, if one follows
-unfoldable pub number_first : List ℕ → Option (ℕ × Option (List ℕ))
-number_first s = option_map (λ n. (n, if more_fields s then Some (after_field s) else None)) (number_said (first_field s))
+-- a number at the number_found of some bytes, and what follows the space after it, if one follows
+unfoldable pub number_ahead : List ℕ → Option (ℕ × Option (List ℕ))
+number_ahead s = option_map (λ n. (n, if more_fields s then Some (after_field s) else None)) (number_said (first_field s))
 
 -- the same, as the code has it
-abbrev pub front : ℕ × Option (Bor (List ℕ)) → ℕ × Option (List ℕ)
-front p = (p.0, option_map (λ rest. rest.now) p.1)
+abbrev pub number_found : ℕ × Option (Bor (List ℕ)) → ℕ × Option (List ℕ)
+number_found p = (p.0, option_map (λ rest. rest.now) p.1)
 
 -- a number's digits before what follows them; a number has no more digits than the turns given
 unfoldable pub digits_before : ℕ → ℕ → List ℕ → List ℕ

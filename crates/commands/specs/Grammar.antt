@@ -5,8 +5,8 @@ use Rattle.rules.specs.declared.entry.GuestAddress.{GuestAddress}
 use Rattle.rules.specs.declared.operations.Operation.{Operation}
 use Rattle.rules.specs.declared.operations.Operation.TheVariants as Asked
 use Rattle.commands.specs.Bytes.{space, is_newline}
-use Rattle.commands.specs.Decimal.{is_digit, number_first, decimal}
-use Rattle.commands.specs.Words.{after_word, said, command_words, new_word, give_word, step_word, poke_word, show_word, operation_words, row_of, operation_word}
+use Rattle.commands.specs.Decimal.{is_digit, number_ahead, decimal}
+use Rattle.commands.specs.Words.{after_word, said, command_words, new_word, give_word, step_word, poke_word, show_word, operation_words, operation_row, operation_word}
 use Rattle.commands.specs.declared.grammar.Numbers.{Numbers}
 use Rattle.commands.specs.declared.grammar.Numbers.TheVariants.{One, Two, Three}
 use Rattle.commands.specs.declared.grammar.Command.{Command}
@@ -17,20 +17,20 @@ use Rattle.commands.specs.declared.words.OperationForm.{OperationForm}
 use Rattle.commands.specs.declared.words.OperationForm.TheVariants.{Address, AddressAndValue}
 
 -- RULES 8.3: "Between two fields of a line stands one space, and there is no other": one to three numbers, each but the last with a space after it, and others after that
-abbrev pub third_number : ℕ → ℕ → ℕ → Option (List ℕ) → Option Numbers
-third_number a b c None = Some (Three a b c)
-third_number a b c (Some s) = None
+abbrev pub after_three : ℕ → ℕ → ℕ → Option (List ℕ) → Option Numbers
+after_three a b c None = Some (Three a b c)
+after_three a b c (Some s) = None
 
-abbrev pub second_number : ℕ → ℕ → Option (List ℕ) → Option Numbers
-second_number a b None = Some (Two a b)
-second_number a b (Some s) = option_and_then (λ p. third_number a b p.0 p.1) (number_first s)
+abbrev pub after_two : ℕ → ℕ → Option (List ℕ) → Option Numbers
+after_two a b None = Some (Two a b)
+after_two a b (Some s) = option_and_then (λ p. after_three a b p.0 p.1) (number_ahead s)
 
-abbrev pub first_number : ℕ → Option (List ℕ) → Option Numbers
-first_number a None = Some (One a)
-first_number a (Some s) = option_and_then (λ p. second_number a p.0 p.1) (number_first s)
+abbrev pub after_one : ℕ → Option (List ℕ) → Option Numbers
+after_one a None = Some (One a)
+after_one a (Some s) = option_and_then (λ p. after_two a p.0 p.1) (number_ahead s)
 
 unfoldable pub numbers_of : List ℕ → Option Numbers
-numbers_of s = option_and_then (λ p. first_number p.0 p.1) (number_first s)
+numbers_of s = option_and_then (λ p. after_one p.0 p.1) (number_ahead s)
 
 -- an operation of an address and a value; one that takes no value has none
 abbrev pub of_numbers : Operation → GuestAddress → ℕ → Operation
@@ -46,16 +46,16 @@ operation_with (AddressAndValue o) (Two a v) = Some (of_numbers o (record { 0 = 
 operation_with form numbers = None
 
 -- `load|ll ADDRESS`, `store|sc ADDRESS VALUE`: a word of the list, and the numbers that its operation takes
-unfoldable pub operation_of : List ℕ → Option Operation
-operation_of s = option_and_then (λ p. option_and_then (operation_with p.0) (numbers_of p.1)) (said operation_words s)
+unfoldable pub operation_in : List ℕ → Option Operation
+operation_in s = option_and_then (λ p. option_and_then (operation_with p.0) (numbers_of p.1)) (said operation_words s)
 
 -- RULES 8.5: `give CORE load|ll ADDRESS` and `give CORE store|sc ADDRESS VALUE`
 abbrev pub give_after : ℕ → Option (List ℕ) → Option Command
 give_after core None = None
-give_after core (Some s) = option_map (Give core) (operation_of s)
+give_after core (Some s) = option_map (Give core) (operation_in s)
 
 unfoldable pub give_command : List ℕ → Option Command
-give_command s = option_and_then (λ p. give_after p.0 p.1) (number_first s)
+give_command s = option_and_then (λ p. give_after p.0 p.1) (number_ahead s)
 
 -- RULES 8.5: `new CORES BYTES [ENTRIES]`, `step CORE`, `poke ADDRESS VALUE` and `show ADDRESS`
 abbrev pub command_with : CommandName → Numbers → Option Command
@@ -99,7 +99,7 @@ numbers_taken (Address p) o = One (address_of o).0
 numbers_taken (AddressAndValue p) o = Two (address_of o).0 (value_of o)
 
 unfoldable pub operation_text : Operation → List ℕ
-operation_text o = operation_word o ++ space ∷ numbers_text (numbers_taken (row_of o).1 o)
+operation_text o = operation_word o ++ space ∷ numbers_text (numbers_taken (operation_row o).1 o)
 
 unfoldable pub line_of : Command → List ℕ
 line_of (New cores bytes None) = new_word ++ space ∷ numbers_text (Two cores bytes)

@@ -1,4 +1,5 @@
--- What a line of script promises, beside what each call's contract says of it. The proofs are in proofs/Handed, ReadBack, ShortSteps, OneLine, Answers, Numbered and Begun, under these names: FirstBytesDecide is proved by first_bytes_decide.
+-- What a line of script promises, beside what each call's contract says of it.
+-- The proofs are in proofs/Handed, ReadBack, ShortSteps, OneLine, Answers, Numbered and Begun, under these names: FirstBytesDecide is proved by first_bytes_decide.
 use Rattle.std.specs.Prelude.{ℕ, ◌+◌, ◌≤◌, ◌<◌, ◌≡◌, Bool, true, false, Option, Some, None, Result, Ok, List, [], ◌∷◌, ◌++◌, length, take, drop, replicate}
 use Rattle.rules.specs.Refusals.{number_in}
 use Rattle.rules.specs.Answers.{values_of}
@@ -10,7 +11,7 @@ use Rattle.rules.specs.declared.refusals.Refusal.TheVariants.{NotUnderstood, NoM
 use Rattle.rules.specs.declared.operations.Operation.{Operation}
 use Rattle.commands.specs.Bytes.{space, newline, first_field, more_fields, after_field}
 use Rattle.commands.specs.Decimal.{decimal}
-use Rattle.commands.specs.Words.{row_of, step_word}
+use Rattle.commands.specs.Words.{operation_row, step_word}
 use Rattle.commands.specs.Grammar.{numbers_taken, command_of, short_step, line_of}
 use Rattle.commands.specs.Effect.{stands, LineOutcome, line_refused, running, new_of, run_line}
 use Rattle.commands.specs.Texts.{answer_words, line_room, answer_line, line_number, counted_on, digits_of}
@@ -35,7 +36,7 @@ SmallNumbers (Two a b) = Small a × Small b
 SmallNumbers (Three a b c) = Small a × Small b × Small c
 
 abbrev pub SmallOperation : Operation → Type 0
-SmallOperation o = SmallNumbers (numbers_taken (row_of o).1 o)
+SmallOperation o = SmallNumbers (numbers_taken (operation_row o).1 o)
 
 -- a command with numbers that can be written
 abbrev pub Writable : Command → Type 0

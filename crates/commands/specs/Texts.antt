@@ -30,9 +30,15 @@ rest_of answer = space ∷ number_text (number_in answer) ++ answer_words answer
 unfoldable pub line_text : List ℕ → Result Answer Refusal → List ℕ
 line_text digits answer = digits ++ rest_of answer
 
--- no line is longer: 20 and 10 digits, a word and its value of 15 bytes, two spaces and the newline
+-- room for the longest: words, as `word 4294967295`; what follows a line's number: a space, 10 digits, a space, words, a newline; and a line, whose number has 20 digits
+abbrev pub words_room : ℕ
+words_room = 15
+
+abbrev pub rest_room : ℕ
+rest_room = words_room + 13
+
 abbrev pub line_room : ℕ
-line_room = 48
+line_room = rest_room + 20
 
 -- that line put in at a place, where there is room for the longest, and where it ends
 abbrev pub line_put : List ℕ → Result Answer Refusal → List ℕ → ℕ → List ℕ

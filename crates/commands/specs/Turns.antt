@@ -1,4 +1,5 @@
--- How a command is done on a machine that is known to be in its ranges and stays with the caller: the one core that it may change goes in and comes back. None of this is a rule: on such a machine it is what `run_command` says (`LinesAreDone`).
+-- How a command is done on a machine that is known to be in its ranges and stays with the caller: the one core that it may change goes in and comes back.
+-- None of this is a rule: on such a machine it is what `run_command` says (`LinesAreDone`).
 use Rattle.std.specs.Prelude.{◌≡◌, ◌⊎◌, ℕ, ◌%◌, true, Option, Some, None, IfSome, unwrap_or, Result, Ok, Err, List, take}
 use Rattle.rules.specs.Ranges.{in_ranges}
 use Rattle.rules.specs.Calls.{with_core}
@@ -72,8 +73,7 @@ turn_by_step s memory owners holders a =
     (beside s.entries a.holders holders)
 
 abbrev pub step_turn : Sizes → Core → List ℕ → List ℕ → List ℕ → ℕ → TurnOutcome
-step_turn s c memory owners holders core =
-    turn_by_step s memory owners holders (step_core_of s c (take s.bytes memory) (take s.entries owners) (take s.entries holders) core)
+step_turn s c memory owners holders core = turn_by_step s memory owners holders (step_core_of s c (take s.bytes memory) (take s.entries owners) (take s.entries holders) core)
 
 -- a poke leaves the tables
 pub record PokeTurnOutcome : Type 0 where
@@ -113,12 +113,12 @@ on_one_core (Some m) (Some core) on_core set_up = on_core m core
 on_one_core (Some m) None on_core set_up = set_up
 on_one_core None core on_core set_up = set_up
 
-abbrev pub turn_of : Machine → List ℕ → List ℕ → List ℕ → ℕ → Option Command → LineOutcome
-turn_of m memory owners holders core command = put_by m core (act_on (sizes_of m) (picked m core) memory owners holders command)
+abbrev pub line_in_place : Machine → List ℕ → List ℕ → List ℕ → ℕ → Option Command → LineOutcome
+line_in_place m memory owners holders core command = put_by m core (act_on (sizes_of m) (picked m core) memory owners holders command)
 
 unfoldable pub run_in_place : Session → List ℕ → List ℕ → List ℕ → Option Command → LineOutcome
 run_in_place session memory owners holders command =
-    on_one_core session.machine (one_core command) (λ m core. turn_of m memory owners holders core command) (set_up session memory owners holders command)
+    on_one_core session.machine (one_core command) (λ m core. line_in_place m memory owners holders core command) (set_up session memory owners holders command)
 
 -- a session whose machine, if one stands, is in its ranges
 abbrev pub Sound : Session → Type 0

@@ -37,12 +37,12 @@ unfoldable pub said : {A : Type 0} → Words A → List ℕ → Option (A × Lis
 said [] s = None
 said (row ∷ words) s = said_or row.1 (after_word row.0 s) (said words s)
 
--- a row of a list, and what is said, as the code has them
-abbrev pub row : {A : Type 0} → Row A → List ℕ × A
-row r = (r.0.now, r.1)
+-- a row of the code's lists, and what the code finds in one, as they stand here
+abbrev pub listed : {A : Type 0} → Row A → List ℕ × A
+listed row = (row.0.now, row.1)
 
-abbrev pub pair : {A : Type 0} → A × Bor (List ℕ) → A × List ℕ
-pair p = (p.0, p.1.now)
+abbrev pub word_found : {A : Type 0} → A × Bor (List ℕ) → A × List ℕ
+word_found p = (p.0, p.1.now)
 
 -- the commands
 abbrev pub new_word : List ℕ
@@ -73,11 +73,11 @@ operation_words =
     ∷ []
 
 -- the row of an operation, and its word
-abbrev pub row_of : Operation → List ℕ × OperationForm
-row_of o = get_or operation_words (code_of o - 1) ([], Address o)
+abbrev pub operation_row : Operation → List ℕ × OperationForm
+operation_row o = get_or operation_words (code_of o - 1) ([], Address o)
 
 abbrev pub operation_word : Operation → List ℕ
-operation_word o = (row_of o).0
+operation_word o = (operation_row o).0
 
 -- the answers: that of a finished operation has the operation's word
 abbrev pub delivered_word : Delivered → List ℕ

@@ -1,13 +1,13 @@
 // Decimal numbers without needless zeros, read and written.
 ghost use Rattle.std.specs.Prelude.{◌≡◌, ◌+◌, ◌<◌, ◌≤◌, true, false, option_map, length, take, slice_index};
 ghost use Rattle.commands.specs.Bytes.{put_in};
-ghost use Rattle.commands.specs.Decimal.{is_digit, all_digits, value_from, number_said, number_first, front, decimal};
+ghost use Rattle.commands.specs.Decimal.{is_digit, all_digits, value_from, number_said, number_ahead, number_found, decimal};
 
 use crate::bytes::after_text;
 
-// The number that the digits at the front of some bytes make, and how many they are. Eleven are looked at: no number
+// The number that the digits at the number_found of some bytes make, and how many they are. Eleven are looked at: no number
 // that is read has more than ten.
-fn digits_first(bytes: &[u8]) -> (u64, usize)
+fn digits_ahead(bytes: &[u8]) -> (u64, usize)
     ensures value { result.0 ≡ value_from 0 (take result.1 bytes.now) }
     ensures digits { all_digits (take result.1 bytes.now) ≡ true }
     ensures within { result.1 ≤ length bytes.now }
@@ -28,7 +28,7 @@ fn digits_first(bytes: &[u8]) -> (u64, usize)
 // The number that some digits say, if they say one. No `parse`: it takes a `+` and needless zeros, which the rules'
 // numbers don't have, and wants the bytes as a `str` first.
 #[tactic(auto, using(crate::proofs::Digits::nothing, crate::proofs::Digits::needless, crate::proofs::Digits::large, crate::proofs::Digits::small))]
-fn number_of(digits: &[u8], value: u64) -> Option<u32>
+fn number_said(digits: &[u8], value: u64) -> Option<u32>
     requires all { all_digits digits.now ≡ true }
     requires value { value ≡ value_from 0 digits.now }
     ensures { result ≡ number_said digits.now }
@@ -43,12 +43,12 @@ fn number_of(digits: &[u8], value: u64) -> Option<u32>
     u32::try_from(value).ok()
 }
 
-// A number at the front of some bytes, and what follows the space after it, if one follows.
-pub(crate) fn number_first(bytes: &[u8]) -> Option<(u32, Option<&[u8]>)>
-    ensures { option_map front result ≡ number_first bytes.now }
+// A number at the number_found of some bytes, and what follows the space after it, if one follows.
+pub(crate) fn number_ahead(bytes: &[u8]) -> Option<(u32, Option<&[u8]>)>
+    ensures { option_map number_found result ≡ number_ahead bytes.now }
 {
-    let (value, count) = digits_first(bytes);
-    let number = number_of(&bytes[..count], value)?;
+    let (value, count) = digits_ahead(bytes);
+    let number = number_said(&bytes[..count], value)?;
     let others = &bytes[count..];
     if others.is_empty() {
         return Some((number, None));

@@ -4,7 +4,7 @@ ghost use Rattle.commands.specs.Grammar.{
   numbers_of,
   of_numbers,
   operation_with,
-  operation_of,
+  operation_in,
   give_command,
   command_with,
   too_long,
@@ -12,7 +12,7 @@ ghost use Rattle.commands.specs.Grammar.{
   short_step,
 };
 
-use crate::decimal::number_first;
+use crate::decimal::number_ahead;
 use crate::words::{CommandName, OperationForm, STEP, after_word, command_said, operation_said};
 use machine::{GuestAddress, Operation};
 
@@ -44,15 +44,15 @@ pub enum Numbers {
 fn numbers_in(bytes: &[u8]) -> Option<Numbers>
     ensures { result ≡ numbers_of bytes.now }
 {
-    let (a, rest) = number_first(bytes)?;
+    let (a, rest) = number_ahead(bytes)?;
     let Some(rest) = rest else {
         return Some(Numbers::One(a));
     };
-    let (b, rest) = number_first(rest)?;
+    let (b, rest) = number_ahead(rest)?;
     let Some(rest) = rest else {
         return Some(Numbers::Two(a, b));
     };
-    let (c, rest) = number_first(rest)?;
+    let (c, rest) = number_ahead(rest)?;
     match rest {
         Some(_) => None,
         None => Some(Numbers::Three(a, b, c)),
@@ -85,9 +85,9 @@ fn operation_with(form: OperationForm, numbers: Numbers) -> Option<Operation>
 }
 
 // A word of the list, and the numbers that its operation takes.
-#[tactic(auto, unfolding(crate::specs::Grammar::operation_of))]
+#[tactic(auto, unfolding(crate::specs::Grammar::operation_in))]
 fn operation_in(bytes: &[u8]) -> Option<Operation>
-    ensures { result ≡ operation_of bytes.now }
+    ensures { result ≡ operation_in bytes.now }
 {
     let (form, rest) = operation_said(bytes)?;
     operation_with(form, numbers_in(rest)?)
@@ -97,7 +97,7 @@ fn operation_in(bytes: &[u8]) -> Option<Operation>
 fn give_in(bytes: &[u8]) -> Option<Command>
     ensures { result ≡ give_command bytes.now }
 {
-    let (core, rest) = number_first(bytes)?;
+    let (core, rest) = number_ahead(bytes)?;
     operation_in(rest?).map(|operation| Command::Give(core, operation))
 }
 

@@ -7,7 +7,10 @@ ghost use Rattle.commands.specs.Texts.{
   values_text,
   number_text,
   answer_words,
+  words_room,
   rest_of,
+  rest_room,
+  line_room,
   line_put,
   line_end,
   two_digits,
@@ -68,10 +71,10 @@ fn put_delivered(delivered: Delivered, out: &mut [u8], at: usize) -> usize
 // No `Display`: it would have these arms too, and a formatter between them and the lent bytes.
 #[tactic(auto, unfolding(crate::specs::Texts::answer_words))]
 fn put_words(answer: Result<Answer, Refusal>, out: &mut [u8], at: usize) -> usize
-    requires { at + 15 ≤ length out.old }
+    requires { at + words_room ≤ length out.old }
     ensures out_after { out.new ≡ put_in (answer_words answer) at out.old }
     ensures value { result ≡ at + length (answer_words answer) }
-    ensures upper_bound { result ≤ at + 15 }
+    ensures upper_bound { result ≤ at + words_room }
 {
     match answer {
         Err(_) => put(b"refused", out, at),
@@ -187,16 +190,19 @@ fn put_line_number(number: u64, line: Option<LineNumber>, out: &mut [u8], at: us
 
 // What follows a line's number.
 fn put_rest(answer: Result<Answer, Refusal>, out: &mut [u8], at: usize) -> usize
-    requires { at + 28 ≤ length out.old }
+    requires { at + rest_room ≤ length out.old }
     ensures out_after { out.new ≡ put_in (rest_of answer) at out.old }
     ensures value { result ≡ at + length (rest_of answer) }
-    ensures upper_bound { result ≤ at + 28 }
+    ensures upper_bound { result ≤ at + rest_room }
 {
     let first = put(b" ", out, at);
     let second = put_answer(number_of(&answer), out, first);
     let third = put_words(answer, out, second);
     put(b"\n", out, third)
 }
+
+// Room for the longest line.
+const LINE_ROOM: usize = 48;
 
 // Writes an answer's line in at a place of the lent bytes, where there is room for the longest,
 // and answers where it ends.
@@ -209,12 +215,12 @@ pub fn answer_line(
 ) -> usize
     ensures text { out.new ≡ line_put (digits_of number line) answer out.old at }
     ensures end { result ≡ line_end (digits_of number line) answer (length out.old) at }
-    ensures fits { result ≤ at + 48 }
+    ensures fits { result ≤ at + line_room }
 {
-    if out.len() < 48 {
+    if out.len() < LINE_ROOM {
         return at;
     }
-    if out.len() - 48 < at {
+    if out.len() - LINE_ROOM < at {
         return at;
     }
     let to = put_line_number(number, line, out, at);

@@ -9,7 +9,7 @@ ghost use Rattle.commands.specs.Turns.{
   poke_turn,
   show_turn,
   act_on,
-  turn_of,
+  line_in_place,
   run_in_place,
   Sound,
 };
@@ -146,7 +146,7 @@ fn turn(
     core: usize,
     command: Option<Command>,
 ) -> Stepped
-    ensures { line_outcome result (running m.new) memory.new owners.new holders.new ≡ turn_of m.old memory.old owners.old holders.old core command }
+    ensures { line_outcome result (running m.new) memory.new owners.new holders.new ≡ line_in_place m.old memory.old owners.old holders.old core command }
 {
     let at = core % 8;
     match act(Sizes::of(m), m.cores[at], memory, owners, holders, command) {

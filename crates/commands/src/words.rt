@@ -4,8 +4,8 @@ ghost use Rattle.std.specs.Prelude.{◌≡◌, map, option_map};
 ghost use Rattle.commands.specs.Words.{
   after_word,
   said,
-  row,
-  pair,
+  listed,
+  word_found,
   command_words,
   operation_words,
   number_word,
@@ -80,7 +80,7 @@ pub(crate) fn after_word<'a>(word: &str, bytes: &'a [u8]) -> Option<&'a [u8]>
 // What such a word of a list stands for, and what follows it.
 #[tactic(auto, unfolding(crate::specs::Words::said))]
 fn said<'a, T: Copy>(words: &[Row<T>], bytes: &'a [u8]) -> Option<(T, &'a [u8])>
-    ensures { option_map pair result ≡ said (map row words.now) bytes.now }
+    ensures { option_map word_found result ≡ said (map listed words.now) bytes.now }
 {
     for row in words {
         if let Some(rest) = after_word(row.0, bytes) {
@@ -91,13 +91,13 @@ fn said<'a, T: Copy>(words: &[Row<T>], bytes: &'a [u8]) -> Option<(T, &'a [u8])>
 }
 
 pub(crate) fn command_said(line: &[u8]) -> Option<(CommandName, &[u8])>
-    ensures { option_map pair result ≡ said command_words line.now }
+    ensures { option_map word_found result ≡ said command_words line.now }
 {
     said(&COMMANDS, line)
 }
 
 pub(crate) fn operation_said(bytes: &[u8]) -> Option<(OperationForm, &[u8])>
-    ensures { option_map pair result ≡ said operation_words bytes.now }
+    ensures { option_map word_found result ≡ said operation_words bytes.now }
 {
     said(&OPERATIONS, bytes)
 }

@@ -100,7 +100,8 @@ pub stands_first : (watch : Bool) (start : Work) (input first : List ℕ) (at : 
 stands_first watch start input first at line digits = record { outcome = refl; text = refl; left = refl; within = omega arith; digits = digits }
 
 -- What is known when one more line was answered: it goes on, or it ends there for the line's event.
-pub record Further (watch : Bool) (start : Work) (input first : List ℕ) (at : ℕ) (o : LineOutcome) (answered next : ℕ) (out : List ℕ) (to : ℕ) (line : Option LineNumber) : Type 0 where
+pub record Further (watch : Bool) (start : Work) (input first : List ℕ) (at : ℕ) (o : LineOutcome) (answered next : ℕ) (out : List ℕ) (to : ℕ)
+    (line : Option LineNumber) : Type 0 where
   pub goes_on : is_some (seen_of watch o.answer o.made) ≡ false → Stands watch start input first at (work_left o answered) next out to line
   pub ends : (event : Option Event) → event ≡ seen_of watch o.answer o.made → is_some event ≡ true
       → stopped (work_left o answered) (lines_in (drop next input)) out to event ≡ answer_lines watch start (lines_in input) first at
@@ -116,7 +117,7 @@ module _ (watch : Bool) (start : Work) (input first : List ℕ) (at : ℕ) (w : 
     (o : LineOutcome) (runs : o ≡ run_command w.session w.memory w.owners w.holders command)
     (line₁ : Option LineNumber) (counted : line₁ ≡ counted_on line (w.answered + 1)) (out₁ : List ℕ) (to₁ : ℕ)
     (put : out₁ ≡ line_put (digits_of (w.answered + 1) line₁) o.answer out to) (ends : to₁ ≡ line_end (digits_of (w.answered + 1) line₁) o.answer (length out) to)
-    (fits : to₁ ≤ to + 48) where
+    (fits : to₁ ≤ to + line_room) where
   abbrev this : List ℕ
   this = handed (first_line (drop next input))
 
@@ -184,7 +185,7 @@ pub further_to : (watch : Bool) (start : Work) (input first : List ℕ) (at : �
     → (o : LineOutcome) → o ≡ run_command w.session w.memory w.owners w.holders command
     → (count : ℕ) → w.answered + 1 ≡ count
     → (line₁ : Option LineNumber) → line₁ ≡ counted_on line count → (out₁ : List ℕ) (to₁ : ℕ)
-    → out₁ ≡ line_put (digits_of count line₁) o.answer out to → to₁ ≡ line_end (digits_of count line₁) o.answer (length out) to → to₁ ≤ to + 48
+    → out₁ ≡ line_put (digits_of count line₁) o.answer out to → to₁ ≡ line_end (digits_of count line₁) o.answer (length out) to → to₁ ≤ to + line_room
     → Further watch start input first at o count (next + (n + 1)) out₁ to₁ line₁
 further_to watch start input first at w next out to line stands room n found more command reads o runs count counts line₁ counted out₁ to₁ put ends fits =
     subst
@@ -195,15 +196,16 @@ further_to watch start input first at w next out to line stands room n found mor
     counted put ends
 
 -- a stop after which nothing was done was for nothing
-pub idle : (followed flushed more : Bool) → (followed || flushed) && more ≡ false → more ≡ true → (followed ≡ false) × (flushed ≡ false)
-idle false false more e m = (refl, refl)
-idle false true more e m = absurd (true≢false (sym m ∙ e))
-idle true flushed more e m = absurd (true≢false (sym m ∙ e))
+pub for_nothing : (followed flushed more : Bool) → (followed || flushed) && more ≡ false → more ≡ true → (followed ≡ false) × (flushed ≡ false)
+for_nothing false false more e m = (refl, refl)
+for_nothing false true more e m = absurd (true≢false (sym m ∙ e))
+for_nothing true flushed more e m = absurd (true≢false (sym m ∙ e))
 
 pub can_answer_there : (lent at answered : ℕ) → at ≤ lent → answer_room ≤ lent - at → ltb answered last_number ≡ true → can_answer lent at answered ≡ true
 can_answer_there lent at answered h k e = rw (le-leb (at + answer_room) lent (omega arith), e) refl
 
-pub nothing_done : (followed flushed more : Bool) (lent at answered : ℕ) → (followed || flushed) && more ≡ false → more ≡ true → (flushed ≡ false → answer_room ≤ lent - at) → at ≤ lent
+pub nothing_done : (followed flushed more : Bool) (lent at answered : ℕ) → (followed || flushed) && more ≡ false → more ≡ true
+    → (flushed ≡ false → answer_room ≤ lent - at) → at ≤ lent
     → ltb answered last_number ≡ more → (followed ≡ false) × (can_answer lent at answered ≡ true)
 nothing_done followed flushed more lent at answered e m room within is =
-    let i = idle followed flushed more e m in (i.0, can_answer_there lent at answered within (room i.1) (is ∙ m))
+    let i = for_nothing followed flushed more e m in (i.0, can_answer_there lent at answered within (room i.1) (is ∙ m))

@@ -44,7 +44,9 @@ plain_first (b ∷ bytes) = go (is_newline b) refl (plain_first bytes)
 pub found_none : (bytes : List ℕ) → Nowhere (Passes (is_byte 10) bytes) 0 (length bytes) → length (first_line bytes) ≡ length bytes
 found_none bytes none =
     first_place bytes
-    ∙ position_or_len_is is_newline bytes (length bytes) 0 (omega arith) (λ k low. false_from_ne_true (is_newline (get_or bytes k 0)) (none k (omega arith) low)) (λ h. absurd (omega arith))
+    ∙ position_or_len_is is_newline bytes (length bytes) 0 (omega arith)
+    (λ k low. false_from_ne_true (is_newline (get_or bytes k 0)) (none k (omega arith) low))
+    (λ h. absurd (omega arith))
 
 pub found_some : (bytes : List ℕ) (n : ℕ) → NoneBefore (Passes (is_byte 10) bytes) 0 (length bytes) n → Passes (is_byte 10) bytes n
     → (n ≡ length (first_line bytes)) × (n + 1 ≤ length bytes)
@@ -95,7 +97,8 @@ module _ (bytes : List ℕ) (n : ℕ) (found : n ≡ length (first_line bytes)) 
     next_line =
         let first = first_line bytes in
         let plain = plain_first bytes in
-        let whole : whole_lines (first ++ newline ∷ rest) ≡ first ∷ whole_lines rest = whole_append [] first (newline ∷ rest) ∙ rw (plain_whole [] first plain, plain_left [] first plain) in
+        let whole : whole_lines (first ++ newline ∷ rest) ≡ first ∷ whole_lines rest
+        = whole_append [] first (newline ∷ rest) ∙ rw (plain_whole [] first plain, plain_left [] first plain) in
         ap lines_in split ∙ ap handed_on whole
 
     pub next_left : unfinished rest ≡ unfinished bytes

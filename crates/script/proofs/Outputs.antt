@@ -27,7 +27,8 @@ output_is_whole pieces = output_cut fresh [] pieces ∙ ap (texts_of fresh) (pie
 texts_handed : (w : Work) (lines : List (List ℕ)) → texts_of w (handed_on lines) ≡ texts_of w lines
 unfolding text_of after_line
 texts_handed w [] = refl
-texts_handed w (line ∷ lines) = rw (first_bytes_decide w.session w.memory w.owners w.holders line) (ap (λ (l : List ℕ). text_of w line ++ l) (texts_handed (after_line w line) lines))
+texts_handed w (line ∷ lines) =
+    rw (first_bytes_decide w.session w.memory w.owners w.holders line) (ap (λ (l : List ℕ). text_of w line ++ l) (texts_handed (after_line w line) lines))
 
 pub output_is_of_lines : OutputIsOfLines
 output_is_of_lines input = texts_handed fresh (lines_of input)

@@ -32,7 +32,8 @@ same_whole : (bytes a b : List ℕ) → handed a ≡ handed b → handed_on (who
 same_whole [] a b e = refl
 same_whole (x ∷ bytes) a b e =
     by_test
-    (λ (t : Bool). handed_on (if t then a ∷ whole_from [] bytes else whole_from (a ++ x ∷ []) bytes) ≡ handed_on (if t then b ∷ whole_from [] bytes else whole_from (b ++ x ∷ []) bytes))
+    (λ (t : Bool). handed_on (if t then a ∷ whole_from [] bytes else whole_from (a ++ x ∷ []) bytes)
+    ≡ handed_on (if t then b ∷ whole_from [] bytes else whole_from (b ++ x ∷ []) bytes))
     (is_newline x)
     (ap (λ (l : List ℕ). l ∷ handed_on (whole_from [] bytes)) e)
     (same_whole bytes (a ++ x ∷ []) (b ++ x ∷ []) (handed_append a b (x ∷ []) e))

@@ -3,7 +3,10 @@ use Rattle.commands.proofs.Written.{writing_on, writing_ends, one_ends, several_
 use Rattle.commands.proofs.decimal.put_decimal.Goals as goal
 
 pub loop-to-preserved : goal.loop-to-preserved
-loop-to-preserved c = let l = c.loop-to in writing_on c.args.number c.args.at _ l.left l.to l.out l.invariant (several_left c.args.number c.args.at _ l.left l.to l.out l.invariant c.loop-to-test.true)
+loop-to-preserved c =
+    let l = c.loop-to in
+    let several = several_left c.args.number c.args.at _ l.left l.to l.out l.invariant c.loop-to-test.true in
+    writing_on c.args.number c.args.at _ l.left l.to l.out l.invariant several
 
 pub overflow_cast-out-2 : goal.overflow_cast-out-2
 overflow_cast-out-2 c = let l = c.loop-to in let one = one_digit_left c.args.number c.args.at _ l.left l.to l.out l.invariant c.loop-to-test.false in omega (arith, one)
@@ -15,4 +18,7 @@ pub bounds-out-at : goal.bounds-out-at
 bounds-out-at c = let l = c.loop-to in one_ends c.args.number c.args.at _ l.left l.to l.out l.invariant
 
 pub returns-clause-out_after : goal.returns-clause-out_after
-returns-clause-out_after c = let l = c.loop-to in writing_ends c.args.number c.args.at _ l.left l.to l.out l.invariant (one_digit_left c.args.number c.args.at _ l.left l.to l.out l.invariant c.loop-to-test.false)
+returns-clause-out_after c =
+    let l = c.loop-to in
+    let one = one_digit_left c.args.number c.args.at _ l.left l.to l.out l.invariant c.loop-to-test.false in
+    writing_ends c.args.number c.args.at _ l.left l.to l.out l.invariant one

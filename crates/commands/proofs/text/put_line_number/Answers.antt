@@ -1,5 +1,6 @@
 use Rattle.std.proofs.Common.{rules, arith, ◌≡◌, ◌+◌, Some, false, length, sym, ap, ◌∙◌}
 use Rattle.std.proofs.lemmas.Option.{same_Some}
+use Rattle.commands.specs.Decimal.{decimal}
 use Rattle.commands.specs.Texts.{digits_stand}
 use Rattle.commands.specs.declared.text.LineNumber.{LineNumber}
 use Rattle.commands.proofs.Placed.{Put, decimal_few}
@@ -29,5 +30,7 @@ returns-in_default c = let a = c.args in
       | in_default-via-in-Some+else-line w ↦ ap digits_stand (same_Some l w.in-Some.line (sym e ∙ w.in-Some.is)) ∙ w.if-line.false
       | in_default-via-in_default w ↦ absurd (cc)
     ]) in
-    let p = whole_put a.number a.line a.at a.out.now _ _ (let h = c.ranges.number in omega arith) whole (record { bytes = c.put_decimal.ensures.out_after; ends = c.put_decimal.ensures.value }) in
+    let d = c.put_decimal in
+    let put : Put (decimal a.number) a.at a.out.now d.new.out d.result = record { bytes = d.ensures.out_after; ends = d.ensures.value } in
+    let p = whole_put a.number a.line a.at a.out.now _ _ (let h = c.ranges.number in omega arith) whole put in
     record { put_before = p.0; value = p.1.0; upper_bound = p.1.1 }

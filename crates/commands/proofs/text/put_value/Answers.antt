@@ -10,4 +10,5 @@ returns-clause-out_after c =
     let v = c.from.result in
     let one = c.put-to in
     let few = value_few v (let h = c.ranges.value.fits in omega (arith, h)) in
-    rw (← c.from.ensures) (c.put_decimal.ensures.out_after ∙ put_both (space ∷ []) (decimal v) a.at one.result a.out.now one.new.out one.ensures.out_after one.ensures.value (omega arith))
+    let both = put_both (space ∷ []) (decimal v) a.at one.result a.out.now one.new.out one.ensures.out_after one.ensures.value (omega arith) in
+    rw (← c.from.ensures) (c.put_decimal.ensures.out_after ∙ both)

@@ -9,7 +9,8 @@ unfolding run_in_place
 returns-in-Some-Some c =
     let a = c.args in
     let t = c.turn in
-    let outcome : line_outcome t.result (running t.new.m) t.new.memory t.new.owners t.new.holders ≡ run_in_place a.self.now a.memory.now a.owners.now a.holders.now a.command = search rules in
+    let outcome : line_outcome t.result (running t.new.m) t.new.memory t.new.owners t.new.holders
+    ≡ run_in_place a.self.now a.memory.now a.owners.now a.holders.now a.command = search rules in
     record {
       outcome = outcome;
       as_the_rules = λ s. outcome ∙ in_place_is a.self.now a.memory.now a.owners.now a.holders.now a.command s;
@@ -21,7 +22,8 @@ unfolding run_in_place
 returns-in_default c =
     let a = c.args in
     let t = c.set_up in
-    let outcome : line_outcome t.result t.new.session t.new.memory t.new.owners t.new.holders ≡ run_in_place a.self.now a.memory.now a.owners.now a.holders.now a.command = search rules in
+    let outcome : line_outcome t.result t.new.session t.new.memory t.new.owners t.new.holders
+    ≡ run_in_place a.self.now a.memory.now a.owners.now a.holders.now a.command = search rules in
     record {
       outcome = outcome;
       as_the_rules = λ s. outcome ∙ in_place_is a.self.now a.memory.now a.owners.now a.holders.now a.command s;

@@ -1,6 +1,6 @@
 use Rattle.std.proofs.Common.{◌∙◌, sym}
 use Rattle.commands.proofs.Digits.{reading_starts, reading_on}
-use Rattle.commands.proofs.decimal.digits_first.Goals as goal
+use Rattle.commands.proofs.decimal.digits_ahead.Goals as goal
 
 pub loop-count-init : goal.loop-count-init
 loop-count-init c = reading_starts c.args.bytes.now
