@@ -85,5 +85,5 @@ answer_fits number answer l h =
     let r = words_few answer h in
     let end = answer_words answer ++ newline ∷ [] in
     let last : length end ≤ 16 = rw (length-append (answer_words answer) (newline ∷ [])) (omega (arith, r)) in
-    let rest : length (decimal (number_in answer) ++ space ∷ end) ≤ 27 = rw (length-append (decimal (number_in answer)) (space ∷ end)) (omega (arith, q, last)) in
+    let rest : length (decimal (number_in answer) ++ space ∷ end) ≤ words_room + 12 = rw (length-append (decimal (number_in answer)) (space ∷ end)) (omega (arith, q, last)) in
     rw (answer_split number answer, length-append (decimal number) (space ∷ (decimal (number_in answer) ++ space ∷ end))) (omega (arith, p, rest))
