@@ -2,9 +2,10 @@
  *
  * The library keeps no state and allocates nothing. The bench keeps one machine and one writer, each
  * a plain struct, and lends memory and both tables to each call. Every call takes any values and
- * refuses by the number that the rules give (docs/RULES.md, 6 and 13); a refusal leaves all that it was
- * lent as it was found, but for a record's 16 bytes, which are then zero, and for malthobre_start, which
- * leaves an all-zero machine.
+ * refuses by the number that the rules give (docs/RULES.md, 6 and 13). One refusal is the library's own:
+ * 9 of malthobre_give, for an operation's number that is none. A refusal is its number and no value, and
+ * leaves all that the call was lent as it was found: the machine, the writer, the buffers, and the 16
+ * bytes for a record. So look at the answer's number before you look at a record.
  *
  * What the library cannot test, and what a call therefore relies on:
  *   - a pointer is not null and points to as many bytes as the length beside it says (to a whole
@@ -65,7 +66,7 @@ typedef struct malthobre_writer {
 #define MALTHOBRE_VALUE(answer) ((uint32_t)((answer) >> 32))
 
 enum {
-    MALTHOBRE_REFUSED = 0, /* the number is not 0 (the value: see malthobre_archive_check) */
+    MALTHOBRE_REFUSED = 0, /* the number is not 0, and the value is 0 */
     MALTHOBRE_READY = 1,   /* start */
     MALTHOBRE_TAKEN = 2,   /* give */
     MALTHOBRE_MOVED = 3,   /* step, the operation is unfinished */
@@ -81,7 +82,9 @@ enum {
     MALTHOBRE_GOOD = 13,     /* block check: the block is the one expected */
     MALTHOBRE_NO_RECORD = 14, /* record of a block or an archive: there is none there */
     MALTHOBRE_RECORD = 15,    /* record of a block or an archive: it is handed out */
-    MALTHOBRE_HOLDS = 16      /* whole archive: it is good; the value is how many records it holds */
+    MALTHOBRE_HOLDS = 16,     /* whole archive: it is good; the value is how many records it holds */
+    MALTHOBRE_NONE_DECIDED = 17, /* decided by: no block decided that the archive is refused */
+    MALTHOBRE_DECIDED = 18       /* decided by: a block did; the value is its index */
 };
 
 /* ---- A record: 16 bytes, as in an archive block, little-endian ----
@@ -96,24 +99,25 @@ typedef uint8_t malthobre_record[16];
 /* ---- The machine ---- */
 
 /* A fresh machine with `count` cores, of the lent buffers' sizes; they are filled with 0.
- * Refused, in this order: 4, 1; the machine is then all zero. Else READY. */
+ * Refused, in this order: 4, 1; the machine is then as it was. Else READY. */
 uint64_t malthobre_start(malthobre_machine *machine, size_t count, uint8_t *memory, size_t memory_length,
                          uint8_t *owners, size_t owners_length, uint8_t *holders, size_t holders_length);
 
 /* An operation (1 load, 2 ll, 3 store, 4 sc) for an idle core; a load and a load-link look at no value.
- * Refused, in this order: 9 for an operation that is none of the four; 5, 1, 7, 2, 3. Else TAKEN. */
+ * Refused, in this order: 9 for an operation that is none of the four, which is the library's own
+ * refusal; 5, 1, 7, 2, 3. Else TAKEN. */
 uint64_t malthobre_give(malthobre_machine *machine, size_t core, uint8_t operation, uint32_t address,
                         uint32_t value);
 
 /* One micro-step of one core, on the machine where it stands. `record` becomes the record that the
- * step hands out, and 16 zero bytes where it hands out none, a refusal among them.
+ * step hands out, and 16 zero bytes where it hands out none; a refused step leaves it as it was.
  * Refused, in this order: 5, 4, 1, 8, 6. Else MOVED, WAITS, LOAD, LL, STORE or SC. */
 uint64_t malthobre_step(malthobre_machine *machine, uint8_t *memory, size_t memory_length, uint8_t *owners,
                         size_t owners_length, uint8_t *holders, size_t holders_length, size_t core,
                         malthobre_record record);
 
-/* A write of one word by the bench, at once. `record` becomes the record that it makes, and 16 zero
- * bytes on a refusal. Refused, in this order: 5, 4, 2, 3. Else POKED. */
+/* A write of one word by the bench, at once. `record` becomes the record that it makes; a refused poke
+ * leaves it as it was. Refused, in this order: 5, 4, 2, 3. Else POKED. */
 uint64_t malthobre_poke(malthobre_machine *machine, uint8_t *memory, size_t memory_length, uint32_t address,
                         uint32_t value, malthobre_record record);
 
@@ -142,18 +146,21 @@ uint64_t malthobre_writer_close(malthobre_writer *writer, uint8_t *block, size_t
  * Refused, in this order: 16, 12, 11, 13, 14, 15. Else GOOD. */
 uint64_t malthobre_block_check(const uint8_t *block, size_t block_length, uint32_t expected, bool after_short);
 
-/* The record at a place of a block, which is checked as above, with the same refusals. RECORD, and
- * `record` is its 16 bytes; past the last one NO_RECORD, and 16 zero bytes, as on a refusal. */
+/* The record at a place of a block, which is checked as above, with the same refusals; `record` is then
+ * as it was. Else RECORD, and `record` is its 16 bytes; past the last one NO_RECORD, and 16 zero bytes. */
 uint64_t malthobre_block_record(const uint8_t *block, size_t block_length, uint32_t expected, bool after_short,
                                 size_t place, malthobre_record record);
 
-/* A whole archive. Refused 16, with the value 0, if its length is no multiple of 512; else the first
- * refused block decides, with its number, and the value is the block's index (at most 1,048,576).
- * Else HOLDS. */
+/* A whole archive. Refused 16, if its length is no multiple of 512; else the first refused block decides,
+ * by its number. Else HOLDS. Like each of the next two, it reads the whole archive. */
 uint64_t malthobre_archive_check(const uint8_t *archive, size_t archive_length);
 
-/* The record of a number, in an archive that is checked whole as above, with the same refusals and
- * values. RECORD, and `record` is its 16 bytes; NO_RECORD, and 16 zero bytes, as on a refusal. */
+/* Which block decided that the archive is refused, as above: DECIDED, with its index (at most 1,048,576).
+ * NONE_DECIDED where the archive is accepted, and where its length is refused. Never refused. */
+uint64_t malthobre_archive_decided_by(const uint8_t *archive, size_t archive_length);
+
+/* The record of a number, in an archive that is checked whole as above, with the same refusals; `record`
+ * is then as it was. Else RECORD, and `record` is its 16 bytes; NO_RECORD, and 16 zero bytes. */
 uint64_t malthobre_archive_record(const uint8_t *archive, size_t archive_length, uint32_t number,
                                   malthobre_record record);
 

@@ -52,7 +52,7 @@ static void keep(const malthobre_record record) {
 static uint64_t step(size_t core) {
     malthobre_record record;
     uint64_t answer = malthobre_step(&machine, memory, BYTES, owners, ENTRIES, holders, ENTRIES, core, record);
-    keep(record);
+    if (MALTHOBRE_NUMBER(answer) == 0) keep(record); /* a refused step leaves `record` as it was */
     return answer;
 }
 
@@ -83,6 +83,7 @@ static uint32_t four(const uint8_t *b) { return b[0] | b[1] << 8 | b[2] << 16 | 
 static void read_back(void) {
     uint64_t whole = malthobre_archive_check(archive, stored);
     expect(whole, MALTHOBRE_HOLDS, 38);
+    expect(malthobre_archive_decided_by(archive, stored), MALTHOBRE_NONE_DECIDED, 0);
     printf("archive: %u bytes, %u records\n", (unsigned)stored, MALTHOBRE_VALUE(whole));
     for (uint32_t n = 0; n < MALTHOBRE_VALUE(whole); n++) {
         malthobre_record of_block, of_archive;
@@ -92,7 +93,9 @@ static void read_back(void) {
         printf("%u: core %u kind %u address %u value %u\n", four(of_block + 12), of_block[0], of_block[1], four(of_block + 4), four(of_block + 8));
     }
     archive[600] ^= 1;
-    printf("a bit of block 1 turned: refused %u\n", MALTHOBRE_NUMBER(malthobre_archive_check(archive, stored)));
+    uint64_t by = malthobre_archive_decided_by(archive, stored);
+    expect(by, MALTHOBRE_DECIDED, 1);
+    printf("a bit of block 1 turned: refused %u, by block %u\n", MALTHOBRE_NUMBER(malthobre_archive_check(archive, stored)), MALTHOBRE_VALUE(by));
 }
 
 int main(void) {

@@ -29,6 +29,7 @@ extern "C" {
     fn malthobre_writer_close(writer: *mut Writer, block: *mut u8, length: usize) -> u64;
     fn malthobre_block_record(block: *const u8, length: usize, expected: u32, after_short: bool, place: usize, record: *mut [u8; 16]) -> u64;
     fn malthobre_archive_check(archive: *const u8, length: usize) -> u64;
+    fn malthobre_archive_decided_by(archive: *const u8, length: usize) -> u64;
     fn malthobre_archive_record(archive: *const u8, length: usize, number: u32, record: *mut [u8; 16]) -> u64;
 }
 
@@ -84,7 +85,10 @@ impl Bench {
     fn step(&mut self, core: usize) -> u64 {
         let mut record = [0; 16];
         let answer = unsafe { malthobre_step(&mut self.machine, self.memory.as_mut_ptr(), 64, self.owners.as_mut_ptr(), 4, self.holders.as_mut_ptr(), 4, core, &mut record) };
-        self.keep(record);
+        // a refused step leaves `record` as it was
+        if answer & 0xff == 0 {
+            self.keep(record);
+        }
         answer
     }
 
@@ -119,6 +123,7 @@ impl Bench {
         let all = &mut self.archive;
         let whole = unsafe { malthobre_archive_check(all.as_ptr(), all.len()) };
         expect(whole, 16, 38);
+        expect(unsafe { malthobre_archive_decided_by(all.as_ptr(), all.len()) }, 17, 0);
         println!("archive: {} bytes, {} records", all.len(), whole >> 32);
         for n in 0..38u32 {
             let (mut of_block, mut of_archive) = ([0; 16], [0; 16]);
@@ -130,7 +135,9 @@ impl Bench {
             println!("{}: core {} kind {} address {} value {}", four(12), of_block[0], of_block[1], four(4), four(8));
         }
         all[600] ^= 1;
-        println!("a bit of block 1 turned: refused {}", unsafe { malthobre_archive_check(all.as_ptr(), all.len()) } & 0xff);
+        let by = unsafe { malthobre_archive_decided_by(all.as_ptr(), all.len()) };
+        expect(by, 18, 1);
+        println!("a bit of block 1 turned: refused {}, by block {}", unsafe { malthobre_archive_check(all.as_ptr(), all.len()) } & 0xff, by >> 32);
     }
 }
 

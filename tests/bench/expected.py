@@ -52,5 +52,5 @@ for number, run in enumerate(RUNS, 1):
 print(f"archive: {(len(records) + 30) // 31 * 512} bytes, {len(records)} records")
 for n, (core, kind, address, value) in enumerate(records):
     print(f"{n}: core {core} kind {kind} address {address} value {value}")
-# 12: the check is the first test of a block that fails (RULES 6.13)
-print("a bit of block 1 turned: refused 12")
+# 12: the check is the first test of a block that fails (RULES 6.13); and which block decided (RULES 7.40a)
+print("a bit of block 1 turned: refused 12, by block 1")

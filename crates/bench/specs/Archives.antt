@@ -3,15 +3,14 @@
 use Rattle.std.specs.Prelude.{ℕ, Bool, List, Option, Result, Ok}
 use Rattle.archive.specs.Records.{record_in}
 use Rattle.archive.specs.Reader.{checked_of, read_of}
-use Rattle.archive.specs.Archive.{whole_of, sought_of}
+use Rattle.archive.specs.Archive.{whole_of, decided_by, sought_of}
 use Rattle.archive.specs.Writer.{WriteOutcome, new_writer, add_of, close_of}
 use Rattle.rules.specs.declared.refusals.Refusal.{Refusal}
 use Rattle.archive.specs.declared.answers.Put.TheVariants as put
 use Rattle.archive.specs.declared.answers.Numbered.{Numbered}
-use Rattle.archive.specs.declared.answers.ArchiveRefusal.{ArchiveRefusal}
 use Rattle.archive.specs.declared.writer.Writer.{Writer}
-use Rattle.bench.specs.CallOutcome.{CallOutcome, call_outcome}
-use Rattle.bench.specs.Packed.{packed_wrote, packed_checked, packed_read, packed_whole, packed_sought, read_bytes}
+use Rattle.bench.specs.CallOutcome.{CallOutcome, call_outcome, left_by}
+use Rattle.bench.specs.Packed.{packed_wrote, packed_checked, packed_read, packed_whole, packed_decided, found_bytes}
 
 -- what a writing call leaves beside the lent block
 pub record WriteCallOutcome : Type 0 where
@@ -24,12 +23,9 @@ write_call_outcome answer w block = record { all = call_outcome answer w; block 
 abbrev pub of_write : WriteOutcome → WriteCallOutcome
 of_write o = write_call_outcome (packed_wrote o.called.answer) o.called.writer o.block
 
--- what a reading call leaves: the answer, and the record's bytes
-abbrev pub of_read : Result (Option Numbered) Refusal → CallOutcome (List ℕ)
-of_read r = call_outcome (packed_read r) (read_bytes r)
-
-abbrev pub of_sought : Result (Option Numbered) ArchiveRefusal → CallOutcome (List ℕ)
-of_sought r = call_outcome (packed_sought r) (read_bytes r)
+-- what a call that hands out a record leaves: the answer, and the record's 16 bytes
+abbrev pub of_read : List ℕ → Result (Option Numbered) Refusal → CallOutcome (List ℕ)
+of_read made r = call_outcome (packed_read r) (left_by r made found_bytes)
 
 -- the calls
 abbrev pub new_call : CallOutcome Writer
@@ -45,11 +41,14 @@ close_call w block = of_write (close_of w block)
 abbrev pub check_call : List ℕ → ℕ → Bool → ℕ
 check_call block expected after_short = packed_checked (checked_of block expected after_short)
 
-abbrev pub record_call : List ℕ → ℕ → Bool → ℕ → CallOutcome (List ℕ)
-record_call block expected after_short place = of_read (read_of block expected after_short place)
+abbrev pub record_call : List ℕ → ℕ → Bool → ℕ → List ℕ → CallOutcome (List ℕ)
+record_call block expected after_short place made = of_read made (read_of block expected after_short place)
 
 abbrev pub whole_call : List ℕ → ℕ
 whole_call s = packed_whole (whole_of s)
 
-abbrev pub sought_call : List ℕ → ℕ → CallOutcome (List ℕ)
-sought_call s number = of_sought (sought_of s number)
+abbrev pub decided_call : List ℕ → ℕ
+decided_call s = packed_decided (decided_by s)
+
+abbrev pub sought_call : List ℕ → ℕ → List ℕ → CallOutcome (List ℕ)
+sought_call s number made = of_read made (sought_of s number)

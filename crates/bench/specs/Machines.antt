@@ -8,7 +8,7 @@ use Rattle.rules.specs.declared.operations.Operation.{Operation}
 use Rattle.rules.specs.declared.refusals.Refusal.TheVariants.{NotUnderstood}
 use Rattle.rules.specs.declared.state.Machine.{Machine}
 use Rattle.rules.specs.declared.state.Called.{Called}
-use Rattle.bench.specs.CallOutcome.{CallOutcome, call_outcome}
+use Rattle.bench.specs.CallOutcome.{CallOutcome, call_outcome, left_by}
 use Rattle.bench.specs.Packed.{packed, handed_bytes}
 
 abbrev pub of_called : Called → CallOutcome Machine
@@ -41,18 +41,29 @@ pub record PokeCallOutcome : Type 0 where
 abbrev pub poke_call_outcome : ℕ → Machine → List ℕ → List ℕ → PokeCallOutcome
 poke_call_outcome answer m memory made = record { all = call_outcome answer m; memory = memory; made = made }
 
-abbrev pub of_start : Outcome → StartCallOutcome
-of_start o = record { all = of_called o.called; memory = o.memory; owners = o.owners; holders = o.holders }
+-- RULES 13.10: "A refused `malthobre_start` does not store the machine of 6.4."
+abbrev pub of_start : Machine → Outcome → StartCallOutcome
+of_start m o =
+    record {
+      all = call_outcome (packed o.called.answer) (left_by o.called.answer m (λ answer. o.called.machine));
+      memory = o.memory;
+      owners = o.owners;
+      holders = o.holders;
+    }
 
-abbrev pub of_step : Outcome → StepCallOutcome
-of_step o = record { all = of_called o.called; memory = o.memory; owners = o.owners; holders = o.holders; made = handed_bytes o.called.made }
+-- the record's 16 bytes, of a call that may hand one out
+abbrev pub made_by : Called → List ℕ → List ℕ
+made_by c made = left_by c.answer made (λ answer. handed_bytes c.made)
 
-abbrev pub of_poke : PokeOutcome → PokeCallOutcome
-of_poke o = record { all = of_called o.called; memory = o.memory; made = handed_bytes o.called.made }
+abbrev pub of_step : List ℕ → Outcome → StepCallOutcome
+of_step made o = record { all = of_called o.called; memory = o.memory; owners = o.owners; holders = o.holders; made = made_by o.called made }
 
--- the calls. RULES 13.10: "A refused `malthobre_start` leaves a machine that is all zero (6.4)."
-abbrev pub start_call : ℕ → List ℕ → List ℕ → List ℕ → StartCallOutcome
-start_call count memory owners holders = of_start (start_of count memory owners holders)
+abbrev pub of_poke : List ℕ → PokeOutcome → PokeCallOutcome
+of_poke made o = record { all = of_called o.called; memory = o.memory; made = made_by o.called made }
+
+-- the calls: what each is lent to be written comes first, and last the record's 16 bytes
+abbrev pub start_call : Machine → ℕ → List ℕ → List ℕ → List ℕ → StartCallOutcome
+start_call m count memory owners holders = of_start m (start_of count memory owners holders)
 
 -- RULES 13.3: "`malthobre_give` takes an operation's number (4.30); one that is none of 1 to 4 is refused 9, before all else."
 abbrev pub give_asked : Machine → ℕ → Option Operation → CallOutcome Machine
@@ -63,11 +74,11 @@ give_asked m core (Some o) = of_called (give_of m core o)
 abbrev pub give_call : Machine → ℕ → ℕ → ℕ → ℕ → CallOutcome Machine
 give_call m core code a value = give_asked m core (asked_of code (record { 0 = a }) value)
 
-abbrev pub step_call : Machine → List ℕ → List ℕ → List ℕ → ℕ → StepCallOutcome
-step_call m memory owners holders core = of_step (step_of m memory owners holders core)
+abbrev pub step_call : Machine → List ℕ → List ℕ → List ℕ → ℕ → List ℕ → StepCallOutcome
+step_call m memory owners holders core made = of_step made (step_of m memory owners holders core)
 
-abbrev pub poke_call : Machine → List ℕ → ℕ → ℕ → PokeCallOutcome
-poke_call m memory a value = of_poke (poke_of m memory (record { 0 = a }) value)
+abbrev pub poke_call : Machine → List ℕ → ℕ → ℕ → List ℕ → PokeCallOutcome
+poke_call m memory a value made = of_poke made (poke_of m memory (record { 0 = a }) value)
 
 abbrev pub show_call : Machine → List ℕ → ℕ → CallOutcome Machine
 show_call m memory a = of_called (show_of m memory (record { 0 = a }))

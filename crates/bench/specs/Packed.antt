@@ -1,5 +1,5 @@
 -- RULES 13, the library for a bench: what crosses to C: an answer as one number, a record as its 16 bytes.
-use Rattle.std.specs.Prelude.{ℕ, ◌+◌, ◌*◌, ◌%◌, Option, Some, None, Result, Ok, Err, List, replicate, ◌==◌, if◌then◌else◌}
+use Rattle.std.specs.Prelude.{ℕ, ◌+◌, ◌*◌, ◌%◌, Option, Some, None, Result, Ok, Err, List, replicate}
 use Rattle.rules.specs.Refusals.{refusal_number}
 use Rattle.rules.specs.declared.answers.Answer.{Answer}
 use Rattle.rules.specs.declared.answers.Answer.TheVariants as answer
@@ -7,26 +7,14 @@ use Rattle.rules.specs.declared.answers.Delivered.{Delivered}
 use Rattle.rules.specs.declared.answers.Delivered.TheVariants as delivered
 use Rattle.rules.specs.declared.answers.Record.{Record}
 use Rattle.rules.specs.declared.refusals.Refusal.{Refusal}
-use Rattle.rules.specs.declared.refusals.Refusal.TheVariants.{BlockLength}
 use Rattle.archive.specs.Records.{encode_record}
 use Rattle.archive.specs.declared.answers.Put.{Put}
 use Rattle.archive.specs.declared.answers.Put.TheVariants as put
 use Rattle.archive.specs.declared.answers.Numbered.{Numbered}
-use Rattle.archive.specs.declared.answers.ArchiveRefusal.{ArchiveRefusal}
-use Rattle.archive.specs.declared.answers.ArchiveRefusal.TheVariants as archive
 
 -- RULES 13.4: "An answer is one number of 64 bits: bits 0 to 7 are the answer number, bits 8 to 15 say which answer it is, bits 16 to 31 are 0, and bits 32 to 63 are the value, or 0 where it has none.": of an answer that is no refusal, whose number is 0
 abbrev pub word_and_value : ℕ → ℕ → ℕ
 word_and_value word value = 256 * word + 4294967296 * value
-
--- RULES 13.5: "The number that says which answer it is, is 0 for a refusal"
--- RULES 13.6: "A whole archive that is refused has, as its value, the index of the block that decided, and 0 where the length did. Counts and indexes are taken modulo 2^32."
-abbrev pub refused_at : ℕ → ℕ → ℕ
-refused_at number index = number + 4294967296 * (index % 4294967296)
-
-abbrev pub packed_refusal : ArchiveRefusal → ℕ
-packed_refusal archive.Length = refusal_number BlockLength
-packed_refusal (archive.Block index refusal) = refused_at (refusal_number refusal) index
 
 -- RULES 13.5, 5 to 8: what a finished operation answers
 abbrev pub packed_delivered : Delivered → ℕ
@@ -63,7 +51,12 @@ packed_found (Some found) = word_and_value 15 0
 abbrev pub packed_count : ℕ → ℕ
 packed_count records = word_and_value 16 (records % 4294967296)
 
--- a call's answer or its refusal, each packed in its own way
+-- RULES 13.5, 17: "no block decided"; 18: "a block decided", with "its index"
+abbrev pub packed_decided : Option ℕ → ℕ
+packed_decided None = word_and_value 17 0
+packed_decided (Some index) = word_and_value 18 (index % 4294967296)
+
+-- RULES 13.5: "The number that says which answer it is, is 0 for a refusal"; RULES 13.6: "A refusal has no value (6.2)": its number alone
 abbrev pub packed_by : {A E : Type 0} → (A → ℕ) → (E → ℕ) → Result A E → ℕ
 packed_by answered refused (Ok answer) = answered answer
 packed_by answered refused (Err refusal) = refused refusal
@@ -80,22 +73,18 @@ packed_checked = packed_by packed_good refusal_number
 abbrev pub packed_read : Result (Option Numbered) Refusal → ℕ
 packed_read = packed_by packed_found refusal_number
 
-abbrev pub packed_whole : Result ℕ ArchiveRefusal → ℕ
-packed_whole = packed_by packed_count packed_refusal
-
-abbrev pub packed_sought : Result (Option Numbered) ArchiveRefusal → ℕ
-packed_sought = packed_by packed_found packed_refusal
+abbrev pub packed_whole : Result ℕ Refusal → ℕ
+packed_whole = packed_by packed_count refusal_number
 
 -- RULES 13.7: "A record is its 16 bytes (7.4), with the number 0 until a writer numbers it. 16 zero bytes are no record."
 abbrev pub no_record : List ℕ
 no_record = replicate 16 0
 
--- RULES 13.9: "Where a call hands out no record, and where it is refused, the 16 bytes for it become 0."
+-- RULES 13.9: "Where a call is not refused and hands out no record, the 16 bytes for it become 0."
 abbrev pub handed_bytes : Option Record → List ℕ
 handed_bytes None = no_record
 handed_bytes (Some r) = encode_record 0 r
 
-abbrev pub read_bytes : {E : Type 0} → Result (Option Numbered) E → List ℕ
-read_bytes (Ok (Some found)) = encode_record found.number found.«record»
-read_bytes (Ok None) = no_record
-read_bytes (Err refusal) = no_record
+abbrev pub found_bytes : Option Numbered → List ℕ
+found_bytes None = no_record
+found_bytes (Some found) = encode_record found.number found.«record»

@@ -3,9 +3,9 @@
 ghost use Rattle.std.specs.Prelude.{◌≡◌};
 ghost use Rattle.bench.specs.CallOutcome.{call_outcome};
 ghost use Rattle.bench.specs.Machines.{start_call_outcome, step_call_outcome, poke_call_outcome, start_call, give_call, step_call, poke_call, show_call};
-ghost use Rattle.bench.specs.Archives.{write_call_outcome, new_call, add_call, close_call, check_call, record_call, whole_call, sought_call};
+ghost use Rattle.bench.specs.Archives.{write_call_outcome, new_call, add_call, close_call, check_call, record_call, whole_call, decided_call, sought_call};
 
-use crate::packed::{Packed, handed_bytes, read_bytes};
+use crate::packed::{Packed, found_bytes, handed_bytes};
 use archive::{Put, Writer, decode_record};
 use machine::{GuestAddress, Machine, Operation, Refusal};
 
@@ -16,10 +16,12 @@ pub fn malthobre_start(
     owners: &mut [u8],
     holders: &mut [u8],
 ) -> u64
-    ensures { start_call_outcome result m.new memory.new owners.new holders.new ≡ start_call count memory.old owners.old holders.old }
+    ensures { start_call_outcome result m.new memory.new owners.new holders.new ≡ start_call m.old count memory.old owners.old holders.old }
 {
     let called = machine::start(count, memory, owners, holders);
-    *m = called.machine;
+    if called.answer.is_ok() {
+        *m = called.machine;
+    }
     called.answer.packed()
 }
 
@@ -40,10 +42,12 @@ pub fn malthobre_step(
     core: usize,
     made: &mut [u8; 16],
 ) -> u64
-    ensures { step_call_outcome result m.new memory.new owners.new holders.new made.new ≡ step_call m.old memory.old owners.old holders.old core }
+    ensures { step_call_outcome result m.new memory.new owners.new holders.new made.new ≡ step_call m.old memory.old owners.old holders.old core made.old }
 {
     let stepped = machine::step_in_place(m, memory, owners, holders, core);
-    *made = handed_bytes(stepped.made);
+    if stepped.answer.is_ok() {
+        *made = handed_bytes(stepped.made);
+    }
     stepped.answer.packed()
 }
 
@@ -54,11 +58,13 @@ pub fn malthobre_poke(
     value: u32,
     made: &mut [u8; 16],
 ) -> u64
-    ensures { poke_call_outcome result m.new memory.new made.new ≡ poke_call m.old memory.old address value }
+    ensures { poke_call_outcome result m.new memory.new made.new ≡ poke_call m.old memory.old address value made.old }
 {
     let called = machine::poke(*m, memory, GuestAddress(address), value);
     *m = called.machine;
-    *made = handed_bytes(called.made);
+    if called.answer.is_ok() {
+        *made = handed_bytes(called.made);
+    }
     called.answer.packed()
 }
 
@@ -106,11 +112,13 @@ pub fn malthobre_block_record(
     place: usize,
     made: &mut [u8; 16],
 ) -> u64
-    ensures { call_outcome result made.new ≡ record_call block.now expected after_short place }
+    ensures { call_outcome result made.new ≡ record_call block.now expected after_short place made.old }
 {
-    let found = archive::record_at(block, expected, after_short, place);
-    *made = read_bytes(&found);
-    found.packed()
+    let read = archive::record_at(block, expected, after_short, place);
+    if let Ok(found) = read {
+        *made = found_bytes(found);
+    }
+    read.packed()
 }
 
 pub fn malthobre_archive_check(bytes: &[u8]) -> u64
@@ -119,10 +127,18 @@ pub fn malthobre_archive_check(bytes: &[u8]) -> u64
     archive::check_archive(bytes).packed()
 }
 
-pub fn malthobre_archive_record(bytes: &[u8], number: u32, made: &mut [u8; 16]) -> u64
-    ensures { call_outcome result made.new ≡ sought_call bytes.now number }
+pub fn malthobre_archive_decided_by(bytes: &[u8]) -> u64
+    ensures { result ≡ decided_call bytes.now }
 {
-    let found = archive::record_of_number(bytes, number);
-    *made = read_bytes(&found);
-    found.packed()
+    archive::decided_by(bytes).packed()
+}
+
+pub fn malthobre_archive_record(bytes: &[u8], number: u32, made: &mut [u8; 16]) -> u64
+    ensures { call_outcome result made.new ≡ sought_call bytes.now number made.old }
+{
+    let read = archive::record_of_number(bytes, number);
+    if let Ok(found) = read {
+        *made = found_bytes(found);
+    }
+    read.packed()
 }

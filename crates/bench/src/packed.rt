@@ -3,7 +3,6 @@ ghost use Rattle.std.specs.Prelude.{◌≡◌, ◌≤◌, ◌%◌, ℕ};
 ghost use Rattle.rules.specs.Refusals.{refusal_number};
 ghost use Rattle.bench.specs.Packed.{
   word_and_value,
-  refused_at,
   packed_by,
   packed_delivered,
   packed_answer,
@@ -11,12 +10,12 @@ ghost use Rattle.bench.specs.Packed.{
   packed_good,
   packed_found,
   packed_count,
-  packed_refusal,
+  packed_decided,
   handed_bytes,
-  read_bytes,
+  found_bytes,
 };
 
-use archive::{ArchiveRefusal, Numbered, Put, encode_record};
+use archive::{Numbered, Put, encode_record};
 use machine::{Answer, Delivered, Record, Refusal};
 
 // A length or an index, in 32 bits. By hand: a From or TryFrom does not cut a number short, so none is plainer.
@@ -32,12 +31,6 @@ fn word_and_value(word: u8, value: u32) -> u64
     ensures { result ≡ word_and_value word value }
 {
     256 * u64::from(word) + 4294967296 * u64::from(value)
-}
-
-fn refused_at(number: u32, index: usize) -> u64
-    ensures { result ≡ refused_at number index }
-{
-    u64::from(number) + 4294967296 * u64::from(low(index))
 }
 
 // What a call answers or refuses with, as one number.
@@ -64,18 +57,6 @@ impl Packed for Refusal {
 
     fn packed(self) -> u64 {
         u64::from(self.number())
-    }
-}
-
-impl Packed for ArchiveRefusal {
-    ghost packs = { packed_refusal };
-
-    fn packed(self) -> u64 {
-        let number = self.number();
-        match self {
-            ArchiveRefusal::Length => u64::from(number),
-            ArchiveRefusal::Block { index, .. } => refused_at(number, index),
-        }
     }
 }
 
@@ -150,6 +131,18 @@ impl Packed for usize {
     }
 }
 
+// The index of the block that decided, if one did.
+impl Packed for Option<usize> {
+    ghost packs = { packed_decided };
+
+    fn packed(self) -> u64 {
+        match self {
+            None => word_and_value(17, 0),
+            Some(index) => word_and_value(18, low(index)),
+        }
+    }
+}
+
 pub(crate) fn handed_bytes(made: Option<Record>) -> [u8; 16]
     ensures { result ≡ handed_bytes made }
 {
@@ -159,11 +152,11 @@ pub(crate) fn handed_bytes(made: Option<Record>) -> [u8; 16]
     }
 }
 
-pub(crate) fn read_bytes<E>(answer: &Result<Option<Numbered>, E>) -> [u8; 16]
-    ensures { result ≡ read_bytes answer.now }
+pub(crate) fn found_bytes(found: Option<Numbered>) -> [u8; 16]
+    ensures { result ≡ found_bytes found }
 {
-    match answer {
-        Ok(Some(found)) => encode_record(found.number, found.record),
-        Ok(None) | Err(_) => [0; 16],
+    match found {
+        None => [0; 16],
+        Some(found) => encode_record(found.number, found.record),
     }
 }

@@ -4,7 +4,7 @@
 ghost use Rattle.std.specs.Prelude.{◌≡◌};
 ghost use Rattle.bench.specs.CallOutcome.{call_outcome};
 ghost use Rattle.bench.specs.Machines.{start_call_outcome, step_call_outcome, poke_call_outcome, start_call, give_call, step_call, poke_call, show_call};
-ghost use Rattle.bench.specs.Archives.{write_call_outcome, new_call, add_call, close_call, check_call, record_call, whole_call, sought_call};
+ghost use Rattle.bench.specs.Archives.{write_call_outcome, new_call, add_call, close_call, check_call, record_call, whole_call, decided_call, sought_call};
 
 use archive::Writer;
 use machine::Machine;
@@ -17,7 +17,7 @@ pub extern "C" fn malthobre_start(
     owners: &mut [u8],
     holders: &mut [u8],
 ) -> u64
-    ensures { start_call_outcome result m.new memory.new owners.new holders.new ≡ start_call count memory.old owners.old holders.old }
+    ensures { start_call_outcome result m.new memory.new owners.new holders.new ≡ start_call m.old count memory.old owners.old holders.old }
 {
     bench::malthobre_start(m, count, memory, owners, holders)
 }
@@ -44,7 +44,7 @@ pub extern "C" fn malthobre_step(
     core: usize,
     made: &mut [u8; 16],
 ) -> u64
-    ensures { step_call_outcome result m.new memory.new owners.new holders.new made.new ≡ step_call m.old memory.old owners.old holders.old core }
+    ensures { step_call_outcome result m.new memory.new owners.new holders.new made.new ≡ step_call m.old memory.old owners.old holders.old core made.old }
 {
     bench::malthobre_step(m, memory, owners, holders, core, made)
 }
@@ -57,7 +57,7 @@ pub extern "C" fn malthobre_poke(
     value: u32,
     made: &mut [u8; 16],
 ) -> u64
-    ensures { poke_call_outcome result m.new memory.new made.new ≡ poke_call m.old memory.old address value }
+    ensures { poke_call_outcome result m.new memory.new made.new ≡ poke_call m.old memory.old address value made.old }
 {
     bench::malthobre_poke(m, memory, address, value, made)
 }
@@ -105,7 +105,7 @@ pub extern "C" fn malthobre_block_record(
     place: usize,
     made: &mut [u8; 16],
 ) -> u64
-    ensures { call_outcome result made.new ≡ record_call block.now expected after_short place }
+    ensures { call_outcome result made.new ≡ record_call block.now expected after_short place made.old }
 {
     bench::malthobre_block_record(block, expected, after_short, place, made)
 }
@@ -118,8 +118,15 @@ pub extern "C" fn malthobre_archive_check(bytes: &[u8]) -> u64
 }
 
 #[unsafe(no_mangle)]
+pub extern "C" fn malthobre_archive_decided_by(bytes: &[u8]) -> u64
+    ensures { result ≡ decided_call bytes.now }
+{
+    bench::malthobre_archive_decided_by(bytes)
+}
+
+#[unsafe(no_mangle)]
 pub extern "C" fn malthobre_archive_record(bytes: &[u8], number: u32, made: &mut [u8; 16]) -> u64
-    ensures { call_outcome result made.new ≡ sought_call bytes.now number }
+    ensures { call_outcome result made.new ≡ sought_call bytes.now number made.old }
 {
     bench::malthobre_archive_record(bytes, number, made)
 }
