@@ -102,6 +102,7 @@ extern "C" {
         record: *mut u8,
     ) -> u64;
     fn malthobre_archive_check(archive: *const u8, archive_length: usize) -> u64;
+    fn malthobre_archive_decided_by(archive: *const u8, archive_length: usize) -> u64;
     fn malthobre_archive_record(
         archive: *const u8,
         archive_length: usize,
@@ -250,8 +251,21 @@ fn parts(answer: u64) -> (u8, u8, u32) {
     (answer as u8, (answer >> 8) as u8, (answer >> 32) as u32)
 }
 
+/// What the 16 bytes for a record hold before a call: no record, and not 16 zero bytes.
+const BEFORE: [u8; 16] = [0xa5; 16];
+
+/// The record that a call hands out, with its number; a refused call leaves the 16 bytes as they were.
+fn record_of(answer: u64, bytes: &[u8; 16]) -> (Option<Record>, u32) {
+    if parts(answer).0 != 0 {
+        assert!(*bytes == BEFORE, "a refused call leaves the record as it was: {bytes:?}");
+        return (None, 0);
+    }
+    record_from(bytes)
+}
+
 fn called(answer: u64, record: &[u8; 16]) -> Called {
     let (number, word, value) = parts(answer);
+    let (record, numbered) = record_of(answer, record);
     let answer = match (number, word, value) {
         (1.., 0, 0) => Answer::Refused(number),
         (0, 1, 0) => Answer::Ready,
@@ -266,8 +280,7 @@ fn called(answer: u64, record: &[u8; 16]) -> Called {
         (0, 10, value) => Answer::Word(value),
         _ => panic!("an answer that no machine's call has: {answer:#x}"),
     };
-    let (record, number) = record_from(record);
-    assert!(number == 0, "no writer has numbered a machine's record: {number}");
+    assert!(numbered == 0, "no writer has numbered a machine's record: {numbered}");
     Called { answer, record }
 }
 
@@ -279,26 +292,32 @@ fn through(
     call: impl Fn(&mut LibraryMachine, &mut State, &mut [u8; 16]) -> u64,
 ) -> Called {
     let mut machine = machine_to(&state.machine);
-    // A record that a call must clear is not clear before.
-    let mut record = [0xa5; 16];
+    let mut record = BEFORE;
     let answer = call(&mut machine, state, &mut record);
     state.machine = machine_from(&machine);
     called(answer, &record)
 }
 
+/// A call that is lent no room for a record hands out none.
+fn with_no_record(state: &mut State, call: impl Fn(&mut LibraryMachine, &mut State) -> u64) -> Called {
+    through(state, |machine, state, record| {
+        let answer = call(machine, state);
+        if parts(answer).0 == 0 {
+            *record = [0; 16];
+        }
+        answer
+    })
+}
+
 impl Engine for Library {
     fn start(state: &mut State, count: usize) -> Called {
-        through(state, |machine, state, record| {
-            *record = [0; 16];
+        with_no_record(state, |machine, state| {
             machine.start(count, &mut state.memory, &mut state.owners, &mut state.holders)
         })
     }
 
     fn give(state: &mut State, core: usize, operation: u8, address: u32, value: u32) -> Called {
-        through(state, |machine, _, record| {
-            *record = [0; 16];
-            machine.give(core, operation, address, value)
-        })
+        with_no_record(state, |machine, _| machine.give(core, operation, address, value))
     }
 
     fn step(state: &mut State, core: usize) -> Called {
@@ -312,10 +331,7 @@ impl Engine for Library {
     }
 
     fn show(state: &mut State, address: u32) -> Called {
-        through(state, |machine, state, record| {
-            *record = [0; 16];
-            machine.show(&state.memory, address)
-        })
+        with_no_record(state, |machine, state| machine.show(&state.memory, address))
     }
 }
 
@@ -342,8 +358,7 @@ fn writer_from(library: &LibraryWriter) -> Writer {
 
 fn whole_from(answer: u64) -> Whole {
     match parts(answer) {
-        (16, 0, 0) => Whole::RefusedLength,
-        (number @ 1.., 0, block) => Whole::RefusedAt { block, number },
+        (number @ 1.., 0, 0) => Whole::Refused(number),
         (0, 16, records) => Whole::Holds(records),
         _ => panic!("an answer that no whole archive has: {answer:#x}"),
     }
@@ -374,9 +389,9 @@ impl Archivist for Library {
     }
 
     fn read(block: &[u8], expected: u32, after_short: bool, place: usize) -> Read {
-        let mut bytes = [0xa5; 16];
+        let mut bytes = BEFORE;
         let answer = block_record(block, expected, after_short, place, &mut bytes);
-        match (parts(answer), record_from(&bytes)) {
+        match (parts(answer), record_of(answer, &bytes)) {
             ((number @ 1.., 0, 0), (None, _)) => Read::Refused(number),
             ((0, 14, 0), (None, _)) => Read::NoRecord,
             ((0, 15, 0), (Some(record), number)) => Read::Record(record, number),
@@ -388,12 +403,21 @@ impl Archivist for Library {
         whole_from(unsafe { malthobre_archive_check(archive.as_ptr(), archive.len()) })
     }
 
+    fn decided_by(archive: &[u8]) -> Option<u32> {
+        let answer = unsafe { malthobre_archive_decided_by(archive.as_ptr(), archive.len()) };
+        match parts(answer) {
+            (0, 17, 0) => None,
+            (0, 18, block) => Some(block),
+            _ => panic!("an answer that no decision has: {answer:#x}"),
+        }
+    }
+
     fn sought(archive: &[u8], number: u32) -> Sought {
-        let mut bytes = [0xa5; 16];
+        let mut bytes = BEFORE;
         let answer =
             unsafe { malthobre_archive_record(archive.as_ptr(), archive.len(), number, bytes.as_mut_ptr()) };
-        match (parts(answer), record_from(&bytes)) {
-            ((1.., 0, _), (None, _)) => Sought::Refused(whole_from(answer)),
+        match (parts(answer), record_of(answer, &bytes)) {
+            ((number @ 1.., 0, 0), (None, _)) => Sought::Refused(number),
             ((0, 14, 0), (None, _)) => Sought::NoRecord,
             ((0, 15, 0), (Some(record), number)) => Sought::Record(record, number),
             other => panic!("what no archive hands out: {other:?}"),

@@ -4,8 +4,8 @@
 use super::shrink::shortest;
 use super::{caught, hundred, Counts, Difference};
 use crate::archive::{
-    block_refusal, place_of, seal, sought, whole, Read, Reader, Sought, Whole, Writer, Wrote, BLOCK,
-    BLOCK_LIMIT, PLACE, PLACES,
+    block_refusal, decided_by, place_of, seal, sought, whole, Read, Reader, Sought, Whole, Writer, Wrote,
+    BLOCK, BLOCK_LIMIT, PLACE, PLACES,
 };
 use crate::machine::Record;
 use crate::random::Random;
@@ -20,6 +20,7 @@ pub trait Archivist {
     fn refusal(block: &[u8], expected: u32, after_short: bool) -> Option<u8>;
     fn read(block: &[u8], expected: u32, after_short: bool, place: usize) -> Read;
     fn whole(archive: &[u8]) -> Whole;
+    fn decided_by(archive: &[u8]) -> Option<u32>;
     fn sought(archive: &[u8], number: u32) -> Sought;
 }
 
@@ -50,6 +51,10 @@ impl Archivist for super::deeds::Second {
 
     fn whole(archive: &[u8]) -> Whole {
         whole(archive)
+    }
+
+    fn decided_by(archive: &[u8]) -> Option<u32> {
+        decided_by(archive)
     }
 
     fn sought(archive: &[u8], number: u32) -> Sought {
@@ -430,6 +435,10 @@ fn archives_differ<A: Archivist, B: Archivist>(blocks: &[[u8; BLOCK]], cut: usiz
     if left != right {
         return Some(format!("the whole archive is {left:?} and {right:?}"));
     }
+    let (left, right) = (A::decided_by(&archive), B::decided_by(&archive));
+    if left != right {
+        return Some(format!("of the archive, block {left:?} and block {right:?} decided"));
+    }
     for number in [0, 1, 30, 31, 61, 62, 100, !0] {
         let (left, right) = (A::sought(&archive, number), B::sought(&archive, number));
         if left != right {
@@ -465,8 +474,7 @@ fn mangled_archive<A: Archivist, B: Archivist>(
     let differ = |blocks: &[[u8; BLOCK]]| caught(|| archives_differ::<A, B>(blocks, cut));
     if differ(&blocks).is_none() {
         match A::whole(&cut_archive(&blocks, cut)) {
-            Whole::RefusedLength => counts.refused("of whole archives", 16),
-            Whole::RefusedAt { number, .. } => counts.refused("of whole archives", number),
+            Whole::Refused(number) => counts.refused("of whole archives", number),
             Whole::Holds(_) => counts.add("  that were good all the same", 1),
         }
         return Ok(());

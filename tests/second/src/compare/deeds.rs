@@ -78,7 +78,10 @@ impl Engine for Second {
     fn start(state: &mut State, count: usize) -> Called {
         let (called, machine) =
             Machine::start(count, &mut state.memory, &mut state.owners, &mut state.holders);
-        state.machine = machine;
+        // The library's header: a refused start leaves the caller's machine as it was.
+        if called.answer == Answer::Ready {
+            state.machine = machine;
+        }
         called
     }
 

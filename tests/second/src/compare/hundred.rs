@@ -129,25 +129,32 @@ fn checks_differ<A: Archivist, B: Archivist>(archive: &[u8]) -> Option<String> {
         (&archive[1..513], 0, false, Some(12)),
     ];
     let but_first = &archive[BLOCK..];
+    let swapped = [first, &archive[2 * BLOCK..3 * BLOCK], &archive[BLOCK..2 * BLOCK]].concat();
+    // a whole archive, and which block decided
     let wholes = [
-        (archive, Whole::Holds(100)),
-        (&[], Whole::Holds(0)),
-        (&archive[..3 * BLOCK], Whole::Holds(93)),
-        (&archive[..2_047], Whole::RefusedLength),
-        (but_first, Whole::RefusedAt { block: 0, number: 13 }),
+        (archive, Whole::Holds(100), None),
+        (&[], Whole::Holds(0), None),
+        (&archive[..3 * BLOCK], Whole::Holds(93), None),
+        (&archive[..2_047], Whole::Refused(16), None),
+        (&but_first[..2_047 - BLOCK], Whole::Refused(16), None),
+        (but_first, Whole::Refused(13), Some(0)),
+        (&swapped, Whole::Refused(13), Some(1)),
     ];
     let numbers = [0, 30, 31, 99, 100, u32::MAX].map(|number| {
         let there = number < 100;
         (archive, number, if there { Sought::Record(sample(number), number) } else { Sought::NoRecord })
     });
-    let refused = [&archive[..2_047], but_first].map(|part| (part, 0, Sought::Refused(A::whole(part))));
+    let refused = [(&archive[..2_047], 0, Sought::Refused(16)), (but_first, 0, Sought::Refused(13))];
     let checked = blocks.into_iter().find_map(|(block, expected, after_short, answer)| {
         let sides = [A::refusal(block, expected, after_short), B::refusal(block, expected, after_short)];
         unlike(format!("the check of a block as {expected}, after a short one {after_short},"), sides, answer)
     });
     let whole = || {
-        wholes.into_iter().find_map(|(part, answer)| {
-            unlike(format!("the archive of {} bytes", part.len()), [A::whole(part), B::whole(part)], answer)
+        wholes.into_iter().find_map(|(part, answer, by)| {
+            let what = format!("the archive of {} bytes", part.len());
+            let decided = format!("which block of the archive of {} bytes decided", part.len());
+            unlike(what, [A::whole(part), B::whole(part)], answer)
+                .or_else(|| unlike(decided, [A::decided_by(part), B::decided_by(part)], by))
         })
     };
     let sought = || {
@@ -166,12 +173,14 @@ fn raised_differs<A: Archivist, B: Archivist>(archive: &[u8], at: usize) -> Opti
     hurt[at] = hurt[at].wrapping_add(1);
     let block = (at / BLOCK) as u32;
     let alone = [A::whole(&hurt), B::whole(&hurt)];
-    let unlike = unlike(format!("with byte {at} raised it"), alone, Whole::RefusedAt { block, number: 12 });
+    let by = [A::decided_by(&hurt), B::decided_by(&hurt)];
+    let unlike = unlike(format!("with byte {at} raised it"), alone, Whole::Refused(12))
+        .or_else(|| unlike(format!("with byte {at} raised the block that decided"), by, Some(block)));
     if unlike.is_some() {
         return unlike;
     }
     seal(hurt.chunks_mut(BLOCK).nth(at / BLOCK)?.try_into().ok()?);
-    let (left, right) = (A::whole(&hurt), B::whole(&hurt));
+    let (left, right) = ((A::whole(&hurt), A::decided_by(&hurt)), (B::whole(&hurt), B::decided_by(&hurt)));
     (left != right)
         .then(|| format!("with byte {at} raised and the check made to fit it is {left:?} and {right:?}"))
 }

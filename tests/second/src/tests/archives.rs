@@ -1,6 +1,8 @@
 //! Blocks, the writer, the reader and the whole archive, byte by byte as docs/RULES.md, 7, lays them out.
 
-use crate::archive::{block_refusal, seal, sought, whole, Read, Reader, Sought, Whole, Writer, Wrote, BLOCK};
+use crate::archive::{
+    block_refusal, decided_by, seal, sought, whole, Read, Reader, Sought, Whole, Writer, Wrote, BLOCK,
+};
 use crate::machine::Record;
 
 fn good(value: u32) -> Record {
@@ -250,20 +252,22 @@ fn a_whole_archive_reads_back() {
 #[test]
 fn the_first_refused_block_decides() {
     let archive = archive_of(100);
-    let at = |block, number| Whole::RefusedAt { block, number };
-    assert_eq!(whole(&archive[..2_047]), Whole::RefusedLength);
-    assert_eq!(whole(&archive[512..]), at(0, 13));
+    let judged = |archive: &[u8]| (whole(archive), decided_by(archive));
+    let at = |block, number| (Whole::Refused(number), Some(block));
+    assert_eq!(judged(&archive), (Whole::Holds(100), None));
+    assert_eq!(judged(&archive[..2_047]), (Whole::Refused(16), None));
+    assert_eq!(judged(&archive[512..]), at(0, 13));
     let mut doubled = archive.clone();
     doubled.extend_from_slice(&archive[3 * 512..]);
-    assert_eq!(whole(&doubled), at(4, 13));
+    assert_eq!(judged(&doubled), at(4, 13));
     let mut after_short = archive.clone();
     let mut block = block_of(1);
     (block[4], block[24]) = (4, 124);
     seal(&mut block);
     after_short.extend_from_slice(&block);
-    assert_eq!(whole(&after_short), at(4, 14));
+    assert_eq!(judged(&after_short), at(4, 14));
     let mut damaged = archive.clone();
     (damaged[600], damaged[1_536]) = (damaged[600] ^ 1, 0);
-    assert_eq!(whole(&damaged), at(1, 12));
-    assert_eq!(sought(&damaged, 0), Sought::Refused(at(1, 12)));
+    assert_eq!(judged(&damaged), at(1, 12));
+    assert_eq!(sought(&damaged, 0), Sought::Refused(12));
 }
