@@ -1,11 +1,8 @@
 -- The readings of the archive's calls: each asks nothing, and gives what the rules give; and their code keeps their contracts.
 -- Assumes nothing.
-use Rattle.std.proofs.Common.{◌≡◌, ℕ, Bool, List, Result, Ok, Err, refl, ap, ◌∙◌}
+use Rattle.std.proofs.Common.{◌≡◌, ℕ, Bool, List, Ok, Err, refl, ap, ◌∙◌}
 use Rattle.rules.specs.Refusals.{Tested, number_in, unless_refused}
-use Rattle.archive.specs.Answers.{archive_number_in}
 use Rattle.archive.specs.Reader.{block_refusal, read_of, next_turn, handed_out, reader_at}
-use Rattle.archive.specs.Archive.{whole_of, found_in, sought_of}
-use Rattle.archive.specs.declared.answers.ArchiveRefusal.{ArchiveRefusal}
 use Rattle.archive.specs.declared.reader.Turn.{Turn}
 use Rattle.archive.proofs.writer.Writer.add.Met as writer-add-met
 use Rattle.archive.proofs.writer.Writer.close.Met as writer-close-met
@@ -16,9 +13,10 @@ use Rattle.archive.proofs.reader.Reader.next.Met as reader-next-met
 use Rattle.archive.proofs.turn_at.Met as turn-at-met
 use Rattle.archive.proofs.turn_through.Met as turn-through-met
 use Rattle.archive.proofs.check_archive.Met as check-archive-met
+use Rattle.archive.proofs.decided_by.Met as decided-by-met
 use Rattle.archive.proofs.record_of_number.Met as record-of-number-met
 use Rattle.promises.specs.Readings.{Reading, AsksNothing, Numbered, AsTheRule, OneOutcome}
-use Rattle.promises.specs.ArchiveReadings.{writer_add, writer_close, check_block, record_at, reader_open, reader_next, turn_at, turn_through, check_archive, record_of_number, EachArchiveCall, ArchiveCodeKeeps}
+use Rattle.promises.specs.ArchiveReadings.{writer_add, writer_close, check_block, record_at, reader_open, reader_next, turn_at, turn_through, check_archive, block_that_decided, record_of_number, EachArchiveCall, ArchiveCodeKeeps}
 use Rattle.promises.proofs.MachineCalls.{one_of_rule}
 
 pub archive_code : ArchiveCodeKeeps
@@ -33,6 +31,7 @@ archive_code =
       turn_at = λ M. turn-at-met.met;
       turn_through = λ M. turn-through-met.met;
       check_archive = λ M. check-archive-met.met;
+      decided_by = λ M. decided-by-met.met;
       record_of_number = λ M. record-of-number-met.met;
     }
 
@@ -49,24 +48,17 @@ archive_asks_nothing =
       turn_at_is = λ κs a. tt;
       turn_through_is = λ κs a. tt;
       check_archive_is = λ κs a. tt;
+      decided_by_is = λ κs a. tt;
       record_of_number_is = λ κs a. tt;
     }
 
--- a hand-out has the number of its block, and the record of a number that of its archive
+-- a hand-out has the number of its block
 read_number : (b : List ℕ) (expected : ℕ) (short : Bool) (place : ℕ) → number_in (read_of b expected short place) ≡ number_in (block_refusal b expected short)
 unfolding read_of
 read_number b expected short place = go (block_refusal b expected short)
   where
     go : (t : Tested) → number_in (unless_refused t Err (Ok (handed_out b place))) ≡ number_in t
     go (Ok u) = refl
-    go (Err r) = refl
-
-sought_number : (s : List ℕ) (number : ℕ) → archive_number_in (sought_of s number) ≡ archive_number_in (whole_of s)
-unfolding sought_of
-sought_number s number = go (whole_of s)
-  where
-    go : (w : Result ℕ ArchiveRefusal) → archive_number_in (found_in s number w) ≡ archive_number_in w
-    go (Ok n) = refl
     go (Err r) = refl
 
 turn_number : (turn : Turn) (b : List ℕ) (place expected : ℕ) (short : Bool) → turn ≡ next_turn b place expected short → number_in turn.read ≡ number_in (block_refusal b expected short)
@@ -83,8 +75,9 @@ archive_numbered =
       reader_next_is = λ κs a result exit p. turn_number result _ _ _ _ p.0;
       turn_at_is = λ κs a result exit p. turn_number result _ _ _ _ p;
       turn_through_is = λ κs a result exit p. turn_number result _ _ _ _ p;
-      check_archive_is = λ κs a result exit p. ap archive_number_in p;
-      record_of_number_is = λ κs a result exit p. ap archive_number_in p ∙ sought_number _ _;
+      check_archive_is = λ κs a result exit p. p.0;
+      decided_by_is = λ κs a result exit p. refl;
+      record_of_number_is = λ κs a result exit p. p.0;
     }
 
 pub archive_as_the_rules : EachArchiveCall AsTheRule
@@ -98,8 +91,9 @@ archive_as_the_rules =
       reader_next_is = λ κs a result exit p. λ i. (p.0 i, (p.1 ∙ ap (λ (t : Turn). reader_at a.0.now.block t.place a.0.now.expected a.0.now.short) p.0) i);
       turn_at_is = λ κs a result exit p. p;
       turn_through_is = λ κs a result exit p. p;
-      check_archive_is = λ κs a result exit p. p;
-      record_of_number_is = λ κs a result exit p. p;
+      check_archive_is = λ κs a result exit p. p.1;
+      decided_by_is = λ κs a result exit p. p;
+      record_of_number_is = λ κs a result exit p. p.1;
     }
 
 -- what holds of a call where another thing does holds of each of them
@@ -116,6 +110,7 @@ module _ (P Q : (Result Exit Left : Type 0) → Reading Result Exit Left → Typ
         turn_at_is = λ κs a. to _ _ _ (turn_at κs a) (is.turn_at_is κs a);
         turn_through_is = λ κs a. to _ _ _ (turn_through κs a) (is.turn_through_is κs a);
         check_archive_is = λ κs a. to _ _ _ (check_archive κs a) (is.check_archive_is κs a);
+        decided_by_is = λ κs a. to _ _ _ (block_that_decided κs a) (is.decided_by_is κs a);
         record_of_number_is = λ κs a. to _ _ _ (record_of_number κs a) (is.record_of_number_is κs a);
       }
 

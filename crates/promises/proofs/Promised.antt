@@ -11,7 +11,8 @@ use Rattle.rules.proofs.Words.{word_laws}
 use Rattle.archive.proofs.Blocks.{each_block_reads_back}
 use Rattle.archive.proofs.Unique.{each_block_is_one, same_block}
 use Rattle.archive.proofs.Wholes.{each_archive_reads_back, each_archive_is_one, same_archive}
-use Rattle.archive.proofs.Runs.{each_refusal_leaves, never_out_of_ranges, each_run_is_an_archive, each_run_reads_back}
+use Rattle.archive.proofs.Refusing.{each_refusal_leaves}
+use Rattle.archive.proofs.Runs.{never_out_of_ranges, each_run_is_an_archive, each_run_reads_back}
 use Rattle.archive.proofs.Taken.{every_list_is_archived, full_is_refused, full_run_is_reached}
 use Rattle.promises.specs.Promised.{Promised}
 use Rattle.promises.proofs.MachineCalls.{machine_code, machine_asks_nothing, machine_numbered, machine_as_the_rules}

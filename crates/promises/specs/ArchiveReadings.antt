@@ -6,12 +6,10 @@ use borrow.Fn.Kinds.{ended_of}
 use denote.Triple.Clauses.{AtExit}
 use Rattle.rules.specs.Refusals.{Tested, number_in}
 use Rattle.rules.specs.declared.refusals.Refusal.{Refusal}
-use Rattle.archive.specs.Answers.{archive_number_in}
 use Rattle.archive.specs.Writer.{WriteOutcome, write_outcome, add_refusal, close_refusal, add_of, close_of}
 use Rattle.archive.specs.Reader.{block_refusal, read_of, next_turn, reader_at}
-use Rattle.archive.specs.Archive.{whole_of, sought_of}
+use Rattle.archive.specs.Archive.{archive_refusal, decided_by, whole_of, sought_of}
 use Rattle.archive.specs.declared.answers.Numbered.{Numbered}
-use Rattle.archive.specs.declared.answers.ArchiveRefusal.{ArchiveRefusal}
 use Rattle.archive.specs.declared.writer.WriterCalled.{WriterCalled}
 use Rattle.archive.specs.declared.reader.Reader.{Reader}
 use Rattle.archive.specs.declared.reader.Opened.{Opened}
@@ -36,6 +34,10 @@ use Rattle.archive.specs.contracts.check_archive as check-archive-contract
 use Rattle.archive.proofs.check_archive.Kinds as check-archive-kinds
 use Rattle.archive.proofs.check_archive.Reads as check-archive-reads
 use Rattle.archive.proofs.check_archive.Statement as check-archive-statement
+use Rattle.archive.specs.contracts.decided_by as decided-by-contract
+use Rattle.archive.proofs.decided_by.Kinds as decided-by-kinds
+use Rattle.archive.proofs.decided_by.Reads as decided-by-reads
+use Rattle.archive.proofs.decided_by.Statement as decided-by-statement
 use Rattle.archive.specs.contracts.record_of_number as record-of-number-contract
 use Rattle.archive.proofs.record_of_number.Kinds as record-of-number-kinds
 use Rattle.archive.proofs.record_of_number.Reads as record-of-number-reads
@@ -164,26 +166,39 @@ module _ (κs : Lfts 1) (a : ArgsD turn-through-contract.signature κs) where
 
 -- check_archive(bytes)
 module _ (κs : Lfts 1) (a : ArgsD check-archive-contract.signature κs) where
-  abbrev pub check_archive : Reading (Result ℕ ArchiveRefusal) (AtExit (ended_of 1 check-archive-kinds.ps check-archive-kinds.r) κs) (Result ℕ ArchiveRefusal)
+  abbrev pub check_archive : Reading (Result ℕ Refusal) (AtExit (ended_of 1 check-archive-kinds.ps check-archive-kinds.r) κs) (Result ℕ Refusal)
   check_archive =
       record {
         Asks = check-archive-reads.Asked κs a;
         Allows = check-archive-reads.Post κs a;
-        number = λ result. archive_number_in result;
-        first_refusal = archive_number_in (whole_of a.0.now);
+        number = λ result. number_in result;
+        first_refusal = number_in (archive_refusal a.0.now);
         left = λ result exit. result;
         rule = whole_of a.0.now;
       }
 
+-- decided_by(bytes), which refuses nothing
+module _ (κs : Lfts 1) (a : ArgsD decided-by-contract.signature κs) where
+  abbrev pub block_that_decided : Reading (Option ℕ) (AtExit (ended_of 1 decided-by-kinds.ps decided-by-kinds.r) κs) (Option ℕ)
+  block_that_decided =
+      record {
+        Asks = decided-by-reads.Asked κs a;
+        Allows = decided-by-reads.Post κs a;
+        number = λ result. 0;
+        first_refusal = 0;
+        left = λ result exit. result;
+        rule = decided_by a.0.now;
+      }
+
 -- record_of_number(bytes, number)
 module _ (κs : Lfts 1) (a : ArgsD record-of-number-contract.signature κs) where
-  abbrev pub record_of_number : Reading (Result (Option Numbered) ArchiveRefusal) (AtExit (ended_of 1 record-of-number-kinds.ps record-of-number-kinds.r) κs) (Result (Option Numbered) ArchiveRefusal)
+  abbrev pub record_of_number : Reading (Result (Option Numbered) Refusal) (AtExit (ended_of 1 record-of-number-kinds.ps record-of-number-kinds.r) κs) (Result (Option Numbered) Refusal)
   record_of_number =
       record {
         Asks = record-of-number-reads.Asked κs a;
         Allows = record-of-number-reads.Post κs a;
-        number = λ result. archive_number_in result;
-        first_refusal = archive_number_in (whole_of a.0.now);
+        number = λ result. number_in result;
+        first_refusal = number_in (archive_refusal a.0.now);
         left = λ result exit. result;
         rule = sought_of a.0.now a.1.0;
       }
@@ -199,6 +214,7 @@ pub record EachArchiveCall (P : (Result Exit Left : Type 0) → Reading Result E
   pub turn_at_is : (κs : Lfts 1) (a : ArgsD turn-at-contract.signature κs) → P _ _ _ (turn_at κs a)
   pub turn_through_is : (κs : Lfts 1) (a : ArgsD turn-through-contract.signature κs) → P _ _ _ (turn_through κs a)
   pub check_archive_is : (κs : Lfts 1) (a : ArgsD check-archive-contract.signature κs) → P _ _ _ (check_archive κs a)
+  pub decided_by_is : (κs : Lfts 1) (a : ArgsD decided-by-contract.signature κs) → P _ _ _ (block_that_decided κs a)
   pub record_of_number_is : (κs : Lfts 1) (a : ArgsD record-of-number-contract.signature κs) → P _ _ _ (record_of_number κs a)
 
 -- the theorems of their code
@@ -212,4 +228,5 @@ pub record ArchiveCodeKeeps : Type 2 where
   pub turn_at : CodeKeeps turn-at-statement.statement
   pub turn_through : CodeKeeps turn-through-statement.statement
   pub check_archive : CodeKeeps check-archive-statement.statement
+  pub decided_by : CodeKeeps decided-by-statement.statement
   pub record_of_number : CodeKeeps record-of-number-statement.statement
