@@ -16,10 +16,11 @@ use Rattle.rules.specs.declared.entry.GuestAddress.{GuestAddress}
 use Rattle.rules.specs.declared.operations.Operation.{Operation}
 use Rattle.rules.specs.declared.operations.Operation.TheVariants.{Load, Ll, Store, Sc}
 use Rattle.rules.specs.Entry.{nowhere}
+use Rattle.rules.specs.Operations.{code_of, asked_of}
 use Rattle.commands.specs.Bytes.{after_text, space, first_field, more_fields, after_field}
 use Rattle.commands.specs.Decimal.{largest, is_digit, digit_of, all_digits, value_from, number_from, number_said, number_ahead, decimal}
 use Rattle.commands.specs.Words.{Words, after_word, said_or, said, command_words, new_word, give_word, step_word, poke_word, show_word, operation_words}
-use Rattle.commands.specs.Grammar.{after_three, after_two, after_one, numbers_of, of_numbers, operation_with, operation_in, give_after, give_command, command_with, command_after}
+use Rattle.commands.specs.Grammar.{after_three, after_two, after_one, numbers_of, operation_with, operation_in, give_after, give_command, command_with, command_after}
 use Rattle.commands.specs.Grammar.{too_long, command_of, numbers_text, operation_text, line_of}
 use Rattle.commands.specs.Promises.{UnderstoodIsWritten, OneLine}
 use Rattle.commands.specs.declared.grammar.Numbers.{Numbers}
@@ -168,18 +169,18 @@ operation_after : OperationForm → List ℕ → Option Operation
 operation_after form t = option_and_then (operation_with form) (numbers_of t)
 
 address_reads : (word : List ℕ) (o : Operation)
-    → ((a : GuestAddress) → word ++ space ∷ decimal a.0 ≡ operation_text (of_numbers o a 0)) → Reads operation_text operation_after (word, Address o)
+    → ((a : GuestAddress) → Written operation_text (word ++ space ∷ decimal a.0) (asked_of (code_of o) a 0)) → Reads operation_text operation_after (word, Address o)
 unfolding operation_after
 address_reads word o e t = go (numbers_of t) (numbers_say t)
   where
     go : (n : Option Numbers) → Written numbers_text t n → Written operation_text (word ++ space ∷ t) (option_and_then (operation_with (Address o)) n)
     go None h = tt
-    go (Some (One a)) h = ap (λ (u : List ℕ). word ++ space ∷ u) h ∙ e (record { 0 = a })
+    go (Some (One a)) h = let P : List ℕ → Type 0 = λ u. Written operation_text (word ++ space ∷ u) (asked_of (code_of o) (record { 0 = a }) 0) in subst P (sym h) (e (record { 0 = a }))
     go (Some (Two a v)) h = tt
     go (Some (Three a b c)) h = tt
 
 value_reads : (word : List ℕ) (o : Operation)
-    → ((a : GuestAddress) (v : ℕ) → word ++ space ∷ (decimal a.0 ++ space ∷ decimal v) ≡ operation_text (of_numbers o a v))
+    → ((a : GuestAddress) (v : ℕ) → Written operation_text (word ++ space ∷ (decimal a.0 ++ space ∷ decimal v)) (asked_of (code_of o) a v))
     → Reads operation_text operation_after (word, AddressAndValue o)
 unfolding operation_after
 value_reads word o e t = go (numbers_of t) (numbers_say t)
@@ -187,11 +188,11 @@ value_reads word o e t = go (numbers_of t) (numbers_say t)
     go : (n : Option Numbers) → Written numbers_text t n → Written operation_text (word ++ space ∷ t) (option_and_then (operation_with (AddressAndValue o)) n)
     go None h = tt
     go (Some (One a)) h = tt
-    go (Some (Two a v)) h = ap (λ (u : List ℕ). word ++ space ∷ u) h ∙ e (record { 0 = a }) v
+    go (Some (Two a v)) h = let P : List ℕ → Type 0 = λ u. Written operation_text (word ++ space ∷ u) (asked_of (code_of o) (record { 0 = a }) v) in subst P (sym h) (e (record { 0 = a }) v)
     go (Some (Three a b c)) h = tt
 
 operations_read : AllByRecursion (Reads operation_text operation_after) operation_words
-unfolding operation_text
+unfolding operation_text asked_of
 operations_read = (
   address_reads (codes "load") (Load nowhere) (λ a. refl),
   (

@@ -10,6 +10,7 @@ use lib.ListN.{length, length-append}
 use borrow.Author.Tests.{le-ltb}
 use Rattle.rules.specs.declared.operations.Operation.{Operation}
 use Rattle.rules.specs.declared.operations.Operation.TheVariants.{Load, Ll, Store, Sc}
+use Rattle.rules.specs.Operations.{asked_of}
 use Rattle.commands.specs.Bytes.{space}
 use Rattle.commands.specs.Decimal.{number_ahead, decimal}
 use Rattle.commands.specs.Words.{said, new_word, step_word, poke_word, show_word, operation_row, operation_word}
@@ -42,7 +43,7 @@ read_numbers (Three a b c) l = rw (number_then a (decimal b ++ space ∷ decimal
 
 -- the operation of a `give`
 read_operation : (o : Operation) → SmallOperation o → operation_in (operation_text o) ≡ Some o
-unfolding operation_in operation_text said
+unfolding operation_in operation_text said asked_of
 read_operation (Load a) l = rw (read_numbers (One a.0) l)
 read_operation (Ll a) l = rw (read_numbers (One a.0) l)
 read_operation (Store a v) l = rw (read_numbers (Two a.0 v) l)

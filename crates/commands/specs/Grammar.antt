@@ -1,9 +1,8 @@
 -- RULES 8, the script program: the commands, "one on each line" (RULES 8.1).
 use Rattle.std.specs.Prelude.{ℕ, ◌-◌, Bool, ◌&&◌, Option, Some, None, option_map, option_and_then, List, [], ◌∷◌, ◌++◌, length, ltb, if◌then◌else◌}
-use Rattle.rules.specs.Operations.{address_of, value_of}
+use Rattle.rules.specs.Operations.{code_of, asked_of, address_of, value_of}
 use Rattle.rules.specs.declared.entry.GuestAddress.{GuestAddress}
 use Rattle.rules.specs.declared.operations.Operation.{Operation}
-use Rattle.rules.specs.declared.operations.Operation.TheVariants as Asked
 use Rattle.commands.specs.Bytes.{space, is_newline}
 use Rattle.commands.specs.Decimal.{is_digit, number_ahead, decimal}
 use Rattle.commands.specs.Words.{after_word, said, command_words, new_word, give_word, step_word, poke_word, show_word, operation_words, operation_row, operation_word}
@@ -32,17 +31,10 @@ after_one a (Some s) = option_and_then (λ p. after_two a p.0 p.1) (number_ahead
 unfoldable pub numbers_of : List ℕ → Option Numbers
 numbers_of s = option_and_then (λ p. after_one p.0 p.1) (number_ahead s)
 
--- an operation of an address and a value; one that takes no value has none
-abbrev pub of_numbers : Operation → GuestAddress → ℕ → Operation
-of_numbers (Asked.Load b) a v = Asked.Load a
-of_numbers (Asked.Ll b) a v = Asked.Ll a
-of_numbers (Asked.Store b w) a v = Asked.Store a v
-of_numbers (Asked.Sc b w) a v = Asked.Sc a v
-
--- with the numbers that it takes: ADDRESS, or ADDRESS VALUE
+-- an operation with the numbers that it takes: ADDRESS, or ADDRESS VALUE
 abbrev pub operation_with : OperationForm → Numbers → Option Operation
-operation_with (Address o) (One a) = Some (of_numbers o (record { 0 = a }) 0)
-operation_with (AddressAndValue o) (Two a v) = Some (of_numbers o (record { 0 = a }) v)
+operation_with (Address o) (One a) = asked_of (code_of o) (record { 0 = a }) 0
+operation_with (AddressAndValue o) (Two a v) = asked_of (code_of o) (record { 0 = a }) v
 operation_with form numbers = None
 
 -- `load|ll ADDRESS`, `store|sc ADDRESS VALUE`: a word of the list, and the numbers that its operation takes

@@ -2,7 +2,6 @@
 ghost use Rattle.std.specs.Prelude.{◌≡◌};
 ghost use Rattle.commands.specs.Grammar.{
   numbers_of,
-  of_numbers,
   operation_with,
   operation_in,
   give_command,
@@ -59,26 +58,16 @@ fn numbers_in(bytes: &[u8]) -> Option<Numbers>
     }
 }
 
-// An operation of an address and a value; one that takes no value has none.
-fn of_numbers(operation: Operation, address: GuestAddress, value: u32) -> Operation
-    ensures { result ≡ of_numbers operation address value }
-{
-    match operation {
-        Operation::Load(_) => Operation::Load(address),
-        Operation::Ll(_) => Operation::Ll(address),
-        Operation::Store(_, _) => Operation::Store(address, value),
-        Operation::Sc(_, _) => Operation::Sc(address, value),
-    }
-}
-
-// With the numbers that it takes.
+// An operation with the numbers that it takes.
 fn operation_with(form: OperationForm, numbers: Numbers) -> Option<Operation>
     ensures { result ≡ operation_with form numbers }
 {
     match (form, numbers) {
-        (OperationForm::Address(o), Numbers::One(a)) => Some(of_numbers(o, GuestAddress(a), 0)),
+        (OperationForm::Address(o), Numbers::One(a)) => {
+            Operation::of(o.code(), GuestAddress(a), 0)
+        }
         (OperationForm::AddressAndValue(o), Numbers::Two(a, v)) => {
-            Some(of_numbers(o, GuestAddress(a), v))
+            Operation::of(o.code(), GuestAddress(a), v)
         }
         _ => None,
     }

@@ -55,10 +55,10 @@ fn put_valued(word: &[u8], value: u32, out: &mut [u8], at: usize) -> usize
 // What a finished operation answers.
 #[tactic(auto, unfolding(crate::specs::Texts::answer_words))]
 fn put_delivered(delivered: Delivered, out: &mut [u8], at: usize) -> usize
-    requires { at + 15 ≤ length out.old }
+    requires { at + words_room ≤ length out.old }
     ensures out_after { out.new ≡ put_in (answer_words (Ok (Done delivered))) at out.old }
     ensures value { result ≡ at + length (answer_words (Ok (Done delivered))) }
-    ensures upper_bound { result ≤ at + 15 }
+    ensures upper_bound { result ≤ at + words_room }
 {
     match delivered {
         Delivered::Load(v) => put_valued(LOAD.as_bytes(), v, out, at),
