@@ -1,6 +1,6 @@
 -- A line that is understood is the line of its command.
 -- Assumes nothing.
-use Rattle.std.specs.Prelude.{Option, Some, None, IfSome, option_map, option_and_then, codes}
+use Rattle.std.specs.Prelude.{Option, Some, None, IfSome, option_map, option_and_then, map}
 use Rattle.std.specs.List.{AllByRecursion}
 use Rattle.std.proofs.lemmas.Option.{cond_some}
 use Rattle.std.proofs.Common.{if◌then◌else◌}
@@ -15,11 +15,10 @@ use borrow.Author.Tests.{eqb-false, lt-ltb, not-true}
 use Rattle.rules.specs.declared.entry.GuestAddress.{GuestAddress}
 use Rattle.rules.specs.declared.operations.Operation.{Operation}
 use Rattle.rules.specs.declared.operations.Operation.TheVariants.{Load, Ll, Store, Sc}
-use Rattle.rules.specs.Entry.{nowhere}
 use Rattle.rules.specs.Operations.{code_of, asked_of}
 use Rattle.commands.specs.Bytes.{after_text, space, first_field, more_fields, after_field}
 use Rattle.commands.specs.Decimal.{largest, is_digit, digit_of, all_digits, value_from, number_from, number_said, number_ahead, decimal}
-use Rattle.commands.specs.Words.{Words, after_word, said_or, said, command_words, new_word, give_word, step_word, poke_word, show_word, operation_words}
+use Rattle.commands.specs.Words.{Words, after_word, said_or, said, command_words, new_word, give_word, step_word, poke_word, show_word, operation_words, operation_row, operation_word}
 use Rattle.commands.specs.Grammar.{after_three, after_two, after_one, numbers_of, operation_with, operation_in, give_after, give_command, command_with, command_after}
 use Rattle.commands.specs.Grammar.{too_long, command_of, numbers_text, operation_text, line_of}
 use Rattle.commands.specs.Promises.{UnderstoodIsWritten, OneLine}
@@ -191,18 +190,26 @@ value_reads word o e t = go (numbers_of t) (numbers_say t)
     go (Some (Two a v)) h = let P : List ℕ → Type 0 = λ u. Written operation_text (word ++ space ∷ u) (asked_of (code_of o) (record { 0 = a }) v) in subst P (sym h) (e (record { 0 = a }) v)
     go (Some (Three a b c)) h = tt
 
-operations_read : AllByRecursion (Reads operation_text operation_after) operation_words
+operation_reads : (o : Operation) → Reads operation_text operation_after (operation_row o)
 unfolding operation_text asked_of
-operations_read = (
-  address_reads (codes "load") (Load nowhere) (λ a. refl),
-  (
-    address_reads (codes "ll") (Ll nowhere) (λ a. refl),
-    (
-      value_reads (codes "store") (Store nowhere 0) (λ a v. refl),
-      (value_reads (codes "sc") (Sc nowhere 0) (λ a v. refl), tt),
-    ),
-  ),
-)
+operation_reads (Load b) = address_reads (operation_word (Load b)) _ (λ a. refl)
+operation_reads (Ll b) = address_reads (operation_word (Ll b)) _ (λ a. refl)
+operation_reads (Store b w) = value_reads (operation_word (Store b w)) _ (λ a v. refl)
+operation_reads (Sc b w) = value_reads (operation_word (Sc b w)) _ (λ a v. refl)
+
+-- each row of the list is the row of its operation
+listed_of : OperationForm → Operation
+listed_of (Address o) = o
+listed_of (AddressAndValue o) = o
+
+each_row : (P : List ℕ × OperationForm → Type 0) → ((o : Operation) → P (operation_row o)) → (words : Words OperationForm)
+    → AllByRecursion P (map (λ row. operation_row (listed_of row.1)) words)
+each_row P so [] = tt
+each_row P so (row ∷ words) = (so (listed_of row.1), each_row P so words)
+
+operations_read : AllByRecursion (Reads operation_text operation_after) operation_words
+unfolding listed_of
+operations_read = each_row (Reads operation_text operation_after) operation_reads operation_words
 
 operation_written : (s : List ℕ) → Written operation_text s (operation_in s)
 unfolding operation_in operation_after

@@ -9,12 +9,11 @@ use native.Mathlib.Omega.{arith}
 use lib.ListN.{length, length-append}
 use borrow.Author.Tests.{le-ltb}
 use Rattle.rules.specs.declared.operations.Operation.{Operation}
-use Rattle.rules.specs.declared.operations.Operation.TheVariants.{Load, Ll, Store, Sc}
 use Rattle.rules.specs.Operations.{asked_of}
 use Rattle.commands.specs.Bytes.{space}
 use Rattle.commands.specs.Decimal.{number_ahead, decimal}
-use Rattle.commands.specs.Words.{said, new_word, step_word, poke_word, show_word, operation_row, operation_word}
-use Rattle.commands.specs.Grammar.{numbers_of, operation_in, give_command, too_long, command_of, numbers_text, numbers_taken, operation_text, line_of}
+use Rattle.commands.specs.Words.{said, operation_words, new_word, step_word, poke_word, show_word, operation_row, operation_word}
+use Rattle.commands.specs.Grammar.{numbers_of, operation_with, operation_in, give_command, too_long, command_of, numbers_text, numbers_taken, operation_text, line_of}
 use Rattle.commands.specs.Promises.{Small, SmallNumbers, SmallOperation, Writable, RoundTrip}
 use Rattle.commands.specs.declared.grammar.Numbers.{Numbers}
 use Rattle.commands.specs.declared.grammar.Numbers.TheVariants.{One, Two, Three}
@@ -41,13 +40,20 @@ read_numbers (One a) l = rw (number_last a l)
 read_numbers (Two a b) l = rw (number_then a (decimal b) l.0, number_last b l.1)
 read_numbers (Three a b c) l = rw (number_then a (decimal b ++ space ∷ decimal c) l.0, number_then b (decimal c) l.1, number_last c l.2)
 
--- the operation of a `give`
+-- the operation of a `give`: its word is found in the list, and its numbers make it
+row_found : (o : Operation) (t : List ℕ) → said operation_words (operation_word o ++ space ∷ t) ≡ Some ((operation_row o).1, t)
+unfolding said
+row_found o t = grind arith
+
+numbers_make : (o : Operation) → operation_with (operation_row o).1 (numbers_taken (operation_row o).1 o) ≡ Some o
+unfolding asked_of
+numbers_make o = grind arith
+
 read_operation : (o : Operation) → SmallOperation o → operation_in (operation_text o) ≡ Some o
-unfolding operation_in operation_text said asked_of
-read_operation (Load a) l = rw (read_numbers (One a.0) l)
-read_operation (Ll a) l = rw (read_numbers (One a.0) l)
-read_operation (Store a v) l = rw (read_numbers (Two a.0 v) l)
-read_operation (Sc a v) l = rw (read_numbers (Two a.0 v) l)
+unfolding operation_in operation_text
+read_operation o l =
+    let n = numbers_taken (operation_row o).1 o in
+    rw (row_found o (numbers_text n), read_numbers n l) (numbers_make o)
 
 read_give : (core : ℕ) (o : Operation) → Small core → SmallOperation o → give_command (decimal core ++ space ∷ operation_text o) ≡ Some (Give core o)
 unfolding give_command

@@ -1,7 +1,6 @@
 -- RULES 8, the script program: the commands, "one on each line" (RULES 8.1).
 use Rattle.std.specs.Prelude.{ℕ, ◌-◌, Bool, ◌&&◌, Option, Some, None, option_map, option_and_then, List, [], ◌∷◌, ◌++◌, length, ltb, if◌then◌else◌}
 use Rattle.rules.specs.Operations.{code_of, asked_of, address_of, value_of}
-use Rattle.rules.specs.declared.entry.GuestAddress.{GuestAddress}
 use Rattle.rules.specs.declared.operations.Operation.{Operation}
 use Rattle.commands.specs.Bytes.{space, is_newline}
 use Rattle.commands.specs.Decimal.{is_digit, number_ahead, decimal}
