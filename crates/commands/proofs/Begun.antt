@@ -17,16 +17,21 @@ use Rattle.rules.proofs.Numbers.{refusals_numbered}
 use Rattle.rules.specs.Calls.{Outcome, outcome, refused, all_idle, started, start_refusal, start_of}
 use Rattle.rules.specs.declared.state.Machine.{Machine}
 use Rattle.rules.specs.declared.state.Called.{Called}
+use Rattle.rules.specs.declared.refusals.Refusal.{Refusal}
 use Rattle.rules.specs.declared.refusals.Refusal.TheVariants.{LentLengths, NoMachine}
 use Rattle.commands.specs.Grammar.{command_of}
 use Rattle.machine.specs.declared.calls.step.Stepped.{Stepped}
 use Rattle.commands.specs.Effect.{LineOutcome, line_outcome, line_refused, session_started, stands, new_fits, line_started, new_of}
 use Rattle.commands.specs.Effect.{once_begun, give_line, step_line, poke_line, show_line, run_command, run_line}
-use Rattle.commands.specs.Promises.{Kept, RefusedNewLeaves, Afresh, AcceptedNewStartsAfresh, is_new, NineBeforeTen}
+use Rattle.commands.specs.Promises.{Kept, KeptIfRefused, Afresh, AcceptedNewStartsAfresh, is_new, NineBeforeTen}
 use Rattle.commands.specs.declared.grammar.Command.{Command}
 use Rattle.commands.specs.declared.grammar.Command.TheVariants.{New, Give, Step, Poke, Show}
 use Rattle.commands.specs.declared.effect.Session.{Session}
 use Rattle.rules.proofs.Bools.{and₂}
+
+module _ (session : Session) (memory owners holders : List ℕ) where
+  pub refused_line_leaves : (r : Refusal) → Kept session memory owners holders (line_refused r session memory owners holders)
+  refused_line_leaves r = record { same_session = refl; same_memory = refl; same_owners = refl; same_holders = refl; nothing_made = refl; no_value = refl }
 
 module _ (session : Session) (memory owners holders : List ℕ) (cores bytes entries : ℕ) where
   -- by its refusal
@@ -57,16 +62,17 @@ module _ (session : Session) (memory owners holders : List ℕ) (cores bytes ent
   refused_keeps (Err n) h =
       record {
         same_session = refl;
-        nothing_made = refl;
         same_memory = take-append-drop bytes memory;
         same_owners = take-append-drop entries owners;
         same_holders = take-append-drop entries holders;
+        nothing_made = refl;
+        no_value = refl;
       }
 
   new_keeps : (f : Bool) → (number_in (new_by f).answer ≡ 0 → ⊥) → Kept session memory owners holders (new_by f)
   unfolding new_by
   new_keeps true h = refused_keeps refusal h
-  new_keeps false h = record { same_session = refl; nothing_made = refl; same_memory = refl; same_owners = refl; same_holders = refl }
+  new_keeps false h = refused_line_leaves session memory owners holders LentLengths
 
   accepted_afresh : (t : Tested) → fits ≡ true → number_in (started_by t).answer ≡ 0 → Afresh memory owners holders cores bytes entries (started_by t)
   unfolding started_by start_by fits
@@ -103,7 +109,8 @@ after_new session memory owners holders cores bytes entries fits called m' o' h'
     let there : line_outcome told session' (m' ++ drop bytes memory) (o' ++ drop entries owners) (h' ++ drop entries holders) ≡ left (outcome called m' o' h') = rw r in
     rw fits (there ∙ ap left e)
 
-pub refused_new_leaves : RefusedNewLeaves
+pub refused_new_leaves : (session : Session) (memory owners holders : List ℕ) (cores bytes entries : ℕ)
+    → KeptIfRefused session memory owners holders (new_of session memory owners holders cores bytes entries)
 refused_new_leaves session memory owners holders cores bytes entries h =
     let e = by_tests session memory owners holders cores bytes entries in
     subst (λ (o : LineOutcome). Kept session memory owners holders o) (sym e)

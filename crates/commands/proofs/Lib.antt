@@ -12,3 +12,4 @@ pub mod OneLine
 pub mod Answers
 pub mod Begun
 pub mod Turning
+pub mod Refusing

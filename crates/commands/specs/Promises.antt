@@ -1,5 +1,5 @@
 -- What a line of script promises, beside what each call's contract says of it.
--- The proofs are in proofs/Handed, ReadBack, ShortSteps, OneLine, Answers, Numbered and Begun, under these names: FirstBytesDecide is proved by first_bytes_decide.
+-- The proofs are in proofs/Handed, ReadBack, ShortSteps, OneLine, Answers, Numbered, Begun and Refusing, under these names: FirstBytesDecide is proved by first_bytes_decide.
 use Rattle.std.specs.Prelude.{ℕ, ◌+◌, ◌≤◌, ◌<◌, ◌≡◌, Bool, true, false, Option, Some, None, Result, Ok, List, [], ◌∷◌, ◌++◌, length, take, drop, replicate}
 use Rattle.rules.specs.Refusals.{number_in}
 use Rattle.rules.specs.Answers.{values_of}
@@ -9,11 +9,14 @@ use Rattle.rules.specs.declared.answers.Answer.TheVariants.{Ready}
 use Rattle.rules.specs.declared.refusals.Refusal.{Refusal}
 use Rattle.rules.specs.declared.refusals.Refusal.TheVariants.{NotUnderstood, NoMachine}
 use Rattle.rules.specs.declared.operations.Operation.{Operation}
+use Rattle.rules.specs.declared.cores.Core.{Core}
+use Rattle.machine.specs.declared.sizes.Sizes.{Sizes}
 use Rattle.commands.specs.Bytes.{space, newline, first_field, more_fields, after_field}
 use Rattle.commands.specs.Decimal.{decimal}
 use Rattle.commands.specs.Words.{operation_row, step_word}
 use Rattle.commands.specs.Grammar.{numbers_taken, command_of, short_step, line_of}
-use Rattle.commands.specs.Effect.{stands, LineOutcome, line_refused, running, new_of, run_line}
+use Rattle.commands.specs.Effect.{stands, LineOutcome, line_refused, running, new_of, run_command, run_line}
+use Rattle.commands.specs.Turns.{TurnOutcome, set_up, act_on, run_in_place}
 use Rattle.commands.specs.Texts.{answer_words, line_room, answer_line, line_number, counted_on, digits_of}
 use Rattle.commands.specs.declared.grammar.Numbers.{Numbers}
 use Rattle.commands.specs.declared.grammar.Numbers.TheVariants.{One, Two, Three}
@@ -99,20 +102,39 @@ DigitsAre = (number : ℕ) → digits_of number (line_number number) ≡ decimal
 abbrev pub CountsOn : Type 0
 CountsOn = (number : ℕ) → counted_on (line_number number) (number + 1) ≡ line_number (number + 1)
 
--- a machine, its memory and its table are as they were, and nothing was made
+-- What a refusal leaves (RULES 6.2 to 6.5): session, memory and tables as found, no record, and no value but its number.
 pub record Kept (session : Session) (memory owners holders : List ℕ) (o : LineOutcome) : Type 0 where
   pub same_session : o.session ≡ session
-  pub nothing_made : o.made ≡ None
   pub same_memory : o.memory ≡ memory
   pub same_owners : o.owners ≡ owners
   pub same_holders : o.holders ≡ holders
+  pub nothing_made : o.made ≡ None
+  pub no_value : values_of o.answer ≡ []
 
--- RULES 8.10: "Where it is refused, the machine before it stays."
-abbrev pub RefusedNewLeaves : Type 0
-RefusedNewLeaves =
-    (session : Session) (memory owners holders : List ℕ) (cores bytes entries : ℕ)
-    → (number_in (new_of session memory owners holders cores bytes entries).answer ≡ 0 → ⊥)
-    → Kept session memory owners holders (new_of session memory owners holders cores bytes entries)
+-- by whatever number a line is refused
+abbrev pub KeptIfRefused : Session → List ℕ → List ℕ → List ℕ → LineOutcome → Type 0
+KeptIfRefused session memory owners holders o = (number_in o.answer ≡ 0 → ⊥) → Kept session memory owners holders o
+
+-- the same of a command on one core that comes in and goes out: no core comes out
+pub record TurnKept (memory owners holders : List ℕ) (t : TurnOutcome) : Type 0 where
+  pub same_memory : t.memory ≡ memory
+  pub same_owners : t.owners ≡ owners
+  pub same_holders : t.holders ≡ holders
+
+-- RULES 1.3: "A refusal leaves machine, memory, table .. as it found them.": each command, and each line, refused by any number, of any session, sound or not
+pub record RefusedLinesLeave : Type 0 where
+  pub command_leaves : (session : Session) (memory owners holders : List ℕ) (command : Option Command)
+      → KeptIfRefused session memory owners holders (run_command session memory owners holders command)
+  pub line_leaves : (session : Session) (memory owners holders line : List ℕ)
+      → KeptIfRefused session memory owners holders (run_line session memory owners holders line)
+  -- where the machine stands, as the code does it
+  pub in_place_leaves : (session : Session) (memory owners holders : List ℕ) (command : Option Command)
+      → KeptIfRefused session memory owners holders (run_in_place session memory owners holders command)
+  pub set_up_leaves : (session : Session) (memory owners holders : List ℕ) (command : Option Command)
+      → KeptIfRefused session memory owners holders (set_up session memory owners holders command)
+  pub act_leaves : (sizes : Sizes) (c : Core) (memory owners holders : List ℕ) (command : Option Command)
+      → (number_in (act_on sizes c memory owners holders command).did ≡ 0 → ⊥)
+      → TurnKept memory owners holders (act_on sizes c memory owners holders command)
 
 -- a new machine: all its cores idle, its memory and table 0; the rest of what is lent as before
 pub record Afresh (memory owners holders : List ℕ) (cores bytes entries : ℕ) (o : LineOutcome) : Type 0 where

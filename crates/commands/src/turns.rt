@@ -14,6 +14,7 @@ ghost use Rattle.commands.specs.Turns.{
   Sound,
 };
 ghost use Rattle.commands.specs.Effect.{line_outcome, running, run_command};
+ghost use Rattle.commands.specs.Promises.{KeptIfRefused};
 
 use crate::effect::{Session, set_up};
 use crate::grammar::Command;
@@ -163,7 +164,8 @@ fn turn(
 
 impl Session {
     // What a line's command does, and what it leaves: the machine is not copied, but where a `new` makes one. A machine
-    // that stands in its ranges stays so, and nothing looks at it.
+    // that stands in its ranges stays so, and nothing looks at it. A line that is refused, by whatever number, leaves all
+    // as it was, and makes no record.
     pub fn run(
         &mut self,
         memory: &mut [u8],
@@ -174,6 +176,7 @@ impl Session {
         ensures outcome { line_outcome result self.new memory.new owners.new holders.new ≡ run_in_place self.old memory.old owners.old holders.old command }
         ensures as_the_rules { Sound self.old → line_outcome result self.new memory.new owners.new holders.new ≡ run_command self.old memory.old owners.old holders.old command }
         ensures sound { Sound self.old → Sound self.new }
+        ensures refused_leaves { KeptIfRefused self.old memory.old owners.old holders.old (line_outcome result self.new memory.new owners.new holders.new) }
     {
         match (one_core_of(command), &mut self.machine) {
             (Some(core), Some(m)) => turn(m, memory, owners, holders, core, command),
