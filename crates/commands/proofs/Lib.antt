@@ -13,3 +13,4 @@ pub mod Answers
 pub mod Begun
 pub mod Turning
 pub mod Refusing
+pub mod Determined
