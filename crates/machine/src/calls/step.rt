@@ -103,36 +103,8 @@ pub fn step_core(
     Ok(did)
 }
 
-// On the machine where it stands: it is left as `step` hands it back.
+// Of a machine by value: one core is taken out of its place, and what became of it is put there.
 #[tactic(auto, unfolding(rules::specs::Calls::step_of, rules::specs::Calls::step_refusal))]
-pub fn step_in_place(
-    machine: &mut Machine,
-    memory: &mut [u8],
-    owners: &mut [u8],
-    holders: &mut [u8],
-    core: usize,
-) -> Stepped
-    ensures number { number_in result.answer ≡ number_in (step_refusal machine.old (length memory.old) owners.old holders.old core) }
-    ensures outcome { outcome (called_at result machine.new) memory.new owners.new holders.new ≡ step_of machine.old memory.old owners.old holders.old core }
-{
-    if !ranges::in_ranges(machine) {
-        return Stepped::refused(Refusal::OutOfRange);
-    }
-    let at = core % 8;
-    let sizes = Sizes::of(machine);
-    match step_core(sizes, machine.cores[at], memory, owners, holders, core) {
-        Ok(did) => {
-            machine.cores[at] = did.core;
-            Stepped {
-                answer: Ok(did.answer),
-                made: did.made,
-            }
-        }
-        Err(refusal) => Stepped::refused(refusal),
-    }
-}
-
-// Of a machine by value: it is stepped in a local.
 pub fn step(
     m: Machine,
     memory: &mut [u8],
@@ -143,11 +115,40 @@ pub fn step(
     ensures number { number_in result.answer ≡ number_in (step_refusal m (length memory.old) owners.old holders.old core) }
     ensures outcome { outcome result memory.new owners.new holders.new ≡ step_of m memory.old owners.old holders.old core }
 {
-    let mut machine = m;
-    let stepped = step_in_place(&mut machine, memory, owners, holders, core);
-    Called {
-        answer: stepped.answer,
-        made: stepped.made,
-        machine,
+    if !ranges::in_ranges(&m) {
+        return Called::refused(Refusal::OutOfRange, m);
+    }
+    let at = core % 8;
+    let sizes = Sizes::of(&m);
+    match step_core(sizes, m.cores[at], memory, owners, holders, core) {
+        Ok(did) => {
+            let mut machine = m;
+            machine.cores[at] = did.core;
+            Called {
+                answer: Ok(did.answer),
+                made: did.made,
+                machine,
+            }
+        }
+        Err(refusal) => Called::refused(refusal, m),
+    }
+}
+
+// On the machine where it stands: it goes by value, and what came back is stored.
+pub fn step_in_place(
+    machine: &mut Machine,
+    memory: &mut [u8],
+    owners: &mut [u8],
+    holders: &mut [u8],
+    core: usize,
+) -> Stepped
+    ensures number { number_in result.answer ≡ number_in (step_refusal machine.old (length memory.old) owners.old holders.old core) }
+    ensures outcome { outcome (called_at result machine.new) memory.new owners.new holders.new ≡ step_of machine.old memory.old owners.old holders.old core }
+{
+    let called = step(*machine, memory, owners, holders, core);
+    *machine = called.machine;
+    Stepped {
+        answer: called.answer,
+        made: called.made,
     }
 }
