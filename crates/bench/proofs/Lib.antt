@@ -1,2 +1,3 @@
 pub mod Unpacked
+pub mod Refusing
 pub mod Determined
