@@ -1,9 +1,9 @@
 -- One more line answered: what is left to answer gives the same in the end.
 -- Assumes nothing.
 use mathlib.Core.Path.{◌≡◌, refl, ap, sym, ◌∙◌, subst}
-use mathlib.Core.Bool.{Bool, true, false, ◌&&◌, ◌||◌, true≢false}
+use mathlib.Core.Bool.{Bool, true, false, true≢false}
 use mathlib.Core.List.{List, [], ◌∷◌, ◌++◌, append_assoc}
-use Prim.Native.Nat.{ℕ, ◌+◌, ◌-◌, ◌≤◌}
+use Prim.Native.Nat.{ℕ, ◌+◌, ◌≤◌}
 use native.Mathlib.Omega.{arith}
 use lib.ListN.{length, take, drop, length-drop}
 use lib.Seq.{take-length, take-paste, drop-drop}
@@ -19,9 +19,9 @@ use Rattle.commands.specs.Texts.{answer_line, answer_put, answer_end, line_room,
 use Rattle.commands.specs.declared.text.LineNumber.{LineNumber}
 use Rattle.commands.proofs.Numbered.{counts_on, line_put_lem, line_end_lem}
 use Rattle.script.specs.declared.answering.Event.{Event}
-use Rattle.script.specs.Output.{Work, work, after_line, text_of, texts_of}
+use Rattle.script.specs.Output.{Work, work, after_line, text_of, texts_of, last_number}
 use Rattle.script.specs.Lines.{handed, unfinished}
-use Rattle.script.specs.Answering.{answer_room, can_answer, last_number, seen_of, lines_in, stopped, answer_lines}
+use Rattle.script.specs.Answering.{answer_room, can_answer, seen_of, lines_in, stopped, answer_lines}
 use Rattle.script.proofs.Cutting.{next_line, next_left}
 
 can_room : (lent at answered : ℕ) → can_answer lent at answered ≡ true → leb (at + answer_room) lent ≡ true
@@ -94,10 +94,11 @@ pub record Stands (watch : Bool) (start : Work) (input first : List ℕ) (at : �
   pub left : unfinished (drop next input) ≡ unfinished input
   pub within : next ≤ length input
   pub digits : line ≡ line_number w.answered
+  pub begun : next ≡ 0 → can_answer (length out) to w.answered ≡ can_answer (length first) at start.answered
 
 pub stands_first : (watch : Bool) (start : Work) (input first : List ℕ) (at : ℕ) (line : Option LineNumber) → line ≡ line_number start.answered
     → Stands watch start input first at start 0 first at line
-stands_first watch start input first at line digits = record { outcome = refl; text = refl; left = refl; within = omega arith; digits = digits }
+stands_first watch start input first at line digits = record { outcome = refl; text = refl; left = refl; within = omega arith; digits = digits; begun = λ e. refl }
 
 -- What is known when one more line was answered: it goes on, or it ends there for the line's event.
 pub record Further (watch : Bool) (start : Work) (input first : List ℕ) (at : ℕ) (o : LineOutcome) (answered next : ℕ) (out : List ℕ) (to : ℕ)
@@ -166,6 +167,7 @@ module _ (watch : Bool) (start : Work) (input first : List ℕ) (at : ℕ) (w : 
           left = on_left;
           within = on_within;
           digits = digits₁;
+          begun = λ e. absurd (omega (arith, e));
         };
         ends = λ event is e.
             ap (λ (v : Option Event). stopped (work_left o (w.answered + 1)) (lines_in (drop (next + (n + 1)) input)) out₁ to₁ v) is
@@ -195,17 +197,7 @@ further_to watch start input first at w next out to line stands room n found mor
     (λ c p e. further watch start input first at w next out to line stands room n found more command reads o runs line₁ c out₁ to₁ p e fits)
     counted put ends
 
--- a stop after which nothing was done was for nothing
-pub for_nothing : (followed flushed more : Bool) → (followed || flushed) && more ≡ false → more ≡ true → (followed ≡ false) × (flushed ≡ false)
-for_nothing false false more e m = (refl, refl)
-for_nothing false true more e m = absurd (true≢false (sym m ∙ e))
-for_nothing true flushed more e m = absurd (true≢false (sym m ∙ e))
-
-pub can_answer_there : (lent at answered : ℕ) → at ≤ lent → answer_room ≤ lent - at → ltb answered last_number ≡ true → can_answer lent at answered ≡ true
-can_answer_there lent at answered h k e = rw (le-leb (at + answer_room) lent (omega arith), e) refl
-
-pub nothing_done : (followed flushed more : Bool) (lent at answered : ℕ) → (followed || flushed) && more ≡ false → more ≡ true
-    → (flushed ≡ false → answer_room ≤ lent - at) → at ≤ lent
-    → ltb answered last_number ≡ more → (followed ≡ false) × (can_answer lent at answered ≡ true)
-nothing_done followed flushed more lent at answered e m room within is =
-    let i = for_nothing followed flushed more e m in (i.0, can_answer_there lent at answered within (room i.1) (is ∙ m))
+-- where nothing was answered though a line could be, there is none
+pub none_yet : (watch : Bool) (start : Work) (input first : List ℕ) (at : ℕ) (w : Work) (next : ℕ) (out : List ℕ) (to : ℕ) (line : Option LineNumber)
+    → Stands watch start input first at w next out to line → can_answer (length out) to w.answered ≡ false → next ≡ 0 → can_answer (length first) at start.answered ≡ true → ⊥
+none_yet watch start input first at w next out to line stands stops e can = true≢false (sym can ∙ sym (stands.begun e) ∙ stops)

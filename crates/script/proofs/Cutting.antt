@@ -12,6 +12,7 @@ use borrow.Author.Tests.{ne_eqb, leb-true, leb-false, lt-ltb}
 use Rattle.std.specs.Prelude.{Option, Some, is_some, position}
 use Rattle.std.specs.List.{position_or_len}
 use Rattle.std.proofs.lemmas.Bool.{false_from_ne_true}
+use Rattle.std.proofs.lemmas.List.{drop-take}
 use Rattle.std.proofs.lemmas.List.Folds.{length-prefix_len}
 use Rattle.std.proofs.lemmas.List.Sums.{position_or_len_is}
 use Rattle.memchr.specs.Find.{Nowhere, NoneBefore, Passes, is_byte}
@@ -138,3 +139,9 @@ module _ (s : List ℕ) (core : ℕ) (is : ShortStep s core) where
 pub short_is : (s : List ℕ) (core : ℕ) → short_step s ≡ Some core
     → (6 ≡ length (first_line s)) × (7 ≤ length s) × ◌≡◌ {A = Option Command} (Some (Step core)) (command_of (handed (first_line s)))
 short_is s core e = let is = short_steps s core e in (short_length s core is, short_ends s core is, short_command s core is)
+
+-- in a buffer, from a place on
+pub between_is : (bytes : List ℕ) (from end : ℕ) → from ≤ end → between from end bytes ≡ drop from (take end bytes)
+between_is bytes from end h =
+    let n : from + (end - from) ≡ end = omega arith in
+    sym (drop-take from (end - from) bytes) ∙ ap (λ (k : ℕ). drop from (take k bytes)) n

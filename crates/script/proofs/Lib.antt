@@ -6,3 +6,6 @@ pub mod Pieces
 pub mod Outputs
 pub mod Answers
 pub mod Puts
+pub mod Joining
+pub mod Carried
+pub mod Reading

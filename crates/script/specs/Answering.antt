@@ -1,5 +1,5 @@
 -- Lines are answered one after the other, up to a stop.
-use Rattle.std.specs.Prelude.{Bool, true, false, ◌&&◌, List, [], ◌∷◌, ℕ, ◌+◌, length, leb, ltb, Option, None, Some, is_some, Result, Ok, if◌then◌else◌}
+use Rattle.std.specs.Prelude.{Bool, true, false, ◌&&◌, List, [], ◌∷◌, ◌++◌, ℕ, ◌+◌, length, leb, ltb, Option, None, Some, is_some, Result, Ok, if◌then◌else◌}
 use Rattle.std.specs.Option.{option_map}
 use Rattle.rules.specs.declared.answers.Answer.{Answer}
 use Rattle.rules.specs.declared.answers.Answer.TheVariants.{Ready}
@@ -12,15 +12,12 @@ use Rattle.script.specs.declared.work.Work as rust
 use Rattle.script.specs.declared.answering.Event.{Event}
 use Rattle.script.specs.declared.answering.Event.TheVariants as event
 use Rattle.script.specs.Lines.{whole_lines, handed_on}
-use Rattle.script.specs.Output.{Work, work, outcome_on, after_line}
+use Rattle.script.specs.Output.{Work, work, outcome_on, after_line, last_number}
+use Rattle.script.specs.Archiving.{listed}
 
 -- the whole lines of some bytes, as they are handed on
 abbrev pub lines_in : List ℕ → List (List ℕ)
 lines_in bytes = handed_on (whole_lines bytes)
-
--- the last number that a line can have
-abbrev pub last_number : ℕ
-last_number = 18446744073709551615
 
 -- more than any answer's line takes
 abbrev pub answer_room : ℕ
@@ -70,6 +67,11 @@ end_in w line out at = answer_end (w.answered + 1) (outcome_on w line).answer (l
 
 abbrev pub event_in : Bool → Work → List ℕ → Option Event
 event_in watch w line = seen_of watch (outcome_on w line).answer (outcome_on w line).made
+
+-- what an archive has to know of lines, in their order
+abbrev pub events_of : Work → List (List ℕ) → List Event
+events_of w [] = []
+events_of w (line ∷ lines) = listed (event_in true w line) ++ events_of (after_line w line) lines
 
 -- Line after line, until there is no line, or no room for another answer, or an event.
 unfoldable pub answer_lines : Bool → Work → List (List ℕ) → List ℕ → ℕ → Stopped

@@ -2,3 +2,6 @@ pub mod Lines
 pub mod Output
 pub mod Answering
 pub mod Puts
+pub mod Archiving
+pub mod Sending
+pub mod Serving

@@ -1,5 +1,5 @@
 -- What the program puts out: an answer line for each line, numbered from 1.
-use Rattle.std.specs.Prelude.{◌≡◌, List, [], ◌∷◌, ◌++◌, ℕ, ◌+◌, replicate}
+use Rattle.std.specs.Prelude.{◌≡◌, List, [], ◌∷◌, ◌++◌, ℕ, ◌+◌, ◌-◌, take, replicate}
 use Rattle.commands.specs.Effect.{LineOutcome, run_line, no_machine}
 use Rattle.commands.specs.Texts.{answer_line}
 use Rattle.commands.specs.declared.effect.Session.{Session}
@@ -35,20 +35,28 @@ abbrev pub texts_of : Work → List (List ℕ) → List ℕ
 texts_of w [] = []
 texts_of w (line ∷ lines) = text_of w line ++ texts_of (after_line w line) lines
 
+-- RULES 8.16: "The last number of a line is 18,446,744,073,709,551,615; the program then stops"
+abbrev pub last_number : ℕ
+last_number = 18446744073709551615
+
+-- so the lines that are answered are those that have a number
+abbrev pub numbered : Work → List (List ℕ) → List (List ℕ)
+numbered w lines = take (last_number - w.answered) lines
+
 -- no machine yet, and the lent buffers all 0
 abbrev pub fresh : Work
 fresh = work no_machine (replicate 16384 0) (replicate 4096 0) (replicate 4096 0) 0
 
 -- the program's whole output for an input
 abbrev pub output_of : List ℕ → List ℕ
-output_of input = texts_of fresh (handed_on (lines_of input))
+output_of input = texts_of fresh (numbered fresh (handed_on (lines_of input)))
 
 -- The input comes in pieces: after each, the whole lines are answered.
 abbrev pub output_from : Work → List ℕ → List (List ℕ) → List ℕ
-output_from w held [] = texts_of w (handed_on (last_line held))
+output_from w held [] = texts_of w (numbered w (handed_on (last_line held)))
 output_from w held (piece ∷ pieces) =
-    texts_of w (handed_on (whole_lines (held ++ piece)))
-    ++ output_from (after_lines w (handed_on (whole_lines (held ++ piece)))) (handed (unfinished (held ++ piece))) pieces
+    texts_of w (numbered w (handed_on (whole_lines (held ++ piece))))
+    ++ output_from (after_lines w (numbered w (handed_on (whole_lines (held ++ piece))))) (handed (unfinished (held ++ piece))) pieces
 
 -- The output does not depend on how the input came in pieces.
 abbrev pub OutputIsWhole : Type 0
@@ -56,4 +64,4 @@ OutputIsWhole = (pieces : List (List ℕ)) → output_from fresh [] pieces ≡ o
 
 -- What is handed on of a line decides what it is, so the output is that of the lines themselves.
 abbrev pub OutputIsOfLines : Type 0
-OutputIsOfLines = (input : List ℕ) → output_of input ≡ texts_of fresh (lines_of input)
+OutputIsOfLines = (input : List ℕ) → output_of input ≡ texts_of fresh (numbered fresh (lines_of input))

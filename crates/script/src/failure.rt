@@ -29,9 +29,9 @@ pub(crate) fn say(rt: &HostRuntime, text: &[u8]) {
 
 impl Failure<'_> {
     // Writes a line: what failed, a colon and why.
-    pub(crate) fn say(self, rt: &HostRuntime) {
+    pub(crate) fn say(&self, rt: &HostRuntime) {
         let mut text = Text::<REASON_ROOM>::new();
-        let error = self.error;
+        let error = &self.error;
         let _ = write!(text, "{error}");
         say(rt, self.what);
         say(rt, b": ");

@@ -1,5 +1,6 @@
 // The input comes in pieces, and is cut into lines in the buffer that it is read into.
-ghost use Rattle.std.specs.Prelude.{◌≡◌, ◌+◌, ◌≤◌, min, length, take, IfOk};
+ghost use Rattle.std.specs.Prelude.{◌≡◌, ◌+◌, ◌≤◌, min, length, take, IfOk, OnOk};
+ghost use Rattle.std.specs.Io.KnownBytes.{Consumes, IsAtEnd};
 ghost use Rattle.script.specs.Lines.{handed, between};
 
 use crate::failure::Failure;
@@ -19,7 +20,9 @@ pub struct Input {
 }
 
 impl Input {
-    pub(crate) fn new() -> Input {
+    pub(crate) fn new() -> Input
+        ensures { result.held ≡ 0 }
+    {
         Input {
             bytes: [0; ROOM],
             held: 0,
@@ -28,11 +31,14 @@ impl Input {
     }
 
     // Reads a piece behind the bytes that are held, up to `end`. At the end of the input it is empty.
-    pub(crate) fn read(&mut self, rt: &HostRuntime) -> Result<(), Failure<'static>>
-        ensures end { IfOk result (λ _. self.old.held ≤ self.new.end) }
+    pub(crate) fn read<R: Read>(&mut self, reader: &mut R) -> Result<(), Failure<'static>>
         ensures held { self.new.held ≡ self.old.held }
+        ensures front { take self.old.held self.new.bytes ≡ take self.old.held self.old.bytes }
+        ensures end { OnOk result (self.old.held ≤ self.new.end) }
+        ensures piece { OnOk result (Consumes (R.remaining reader.old) (R.remaining reader.new) (between self.old.held self.new.end self.new.bytes)) }
+        ensures last { OnOk result (self.new.end ≡ self.old.held → IsAtEnd (R.remaining reader.new)) }
     {
-        match rt.stdin().read(&mut self.bytes[self.held..]) {
+        match reader.read(&mut self.bytes[self.held..]) {
             Ok(count) => {
                 self.end = self.held + count;
                 Ok(())

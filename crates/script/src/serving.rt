@@ -1,7 +1,11 @@
 // The script on standard input is answered, piece by piece.
-ghost use Rattle.std.specs.Prelude.{◌≡◌, true, [], ltb, ◌≤◌, length, drop, IfOk, ⊤};
-ghost use Rattle.std.specs.ControlFlow.{MatchControlFlow};
-ghost use Rattle.script.specs.Answering.{last_number, lines_in};
+ghost use Rattle.std.specs.Prelude.{◌≡◌, true, [], ltb, ◌≤◌, length, take, drop, option_and_then, IfSome, IfOk, OnOk};
+ghost use Rattle.std.specs.Io.KnownBytes.{Appends};
+ghost use Rattle.script.specs.Lines.{unfinished, handed, last_line, handed_on, lines_of};
+ghost use Rattle.script.specs.Output.{last_number, numbered, output_of};
+ghost use Rattle.script.specs.Answering.{work_of, lines_in};
+ghost use Rattle.script.specs.Archiving.{writer_in, listed, Follows};
+ghost use Rattle.script.specs.Serving.{state_of, Answered, AnsweredSome};
 
 use crate::answering::{ANSWER_ROOM, Event, answer_lines};
 use crate::archive_file::Archives;
@@ -11,7 +15,8 @@ use crate::output;
 use crate::output::Output;
 use crate::text::Text;
 use crate::work::Work;
-use std::ops::ControlFlow;
+use std::io;
+use std::io::{Read, Write};
 
 // What is carried from piece to piece.
 #[derive(Drop)]
@@ -22,98 +27,152 @@ struct Serving<'a> {
 }
 
 // An event goes to the archives, where there are any.
-fn follow(rt: &HostRuntime, archives: &mut Option<Archives<'_>>, event: Option<Event>) {
+fn follow(rt: &HostRuntime, archives: &mut Option<Archives<'_>>, event: Option<Event>)
+    ensures { Follows (option_and_then writer_in archives.old) (listed event) (option_and_then writer_in archives.new) }
+{
     if let (Some(archives), Some(event)) = (archives, event) {
         archives.follow(rt, event);
     }
 }
 
 impl Serving<'_> {
-    // Answers lines up to a stop, and does what it stopped for: an event goes to the archive, and a full output is
-    // written out. Answers where it stopped, and breaks if that was for nothing, or if no line can have a number.
-    #[tactic(auto, using(crate::proofs::Answers::nothing_done))]
-    fn answer_some(
+    // Answers lines up to a stop, and hands the event that it stopped for to the archives. Answers how far it came.
+    fn answer_some<W: Write>(
         &mut self,
         rt: &HostRuntime,
+        writer: &mut W,
         bytes: &[u8],
-    ) -> Result<ControlFlow<usize, usize>, Failure<'static>>
-        ensures within { IfOk result (λ flow. MatchControlFlow flow (λ from. from ≤ length bytes.now) (λ from. from ≤ length bytes.now)) }
-        ensures all { IfOk result (λ flow. MatchControlFlow flow (λ _. ⊤) (λ from. ltb self.new.work.answered last_number ≡ true → lines_in (drop from bytes.now) ≡ [])) }
+    ) -> Result<usize, Failure<'static>>
+        ensures within { IfOk result (λ from. from ≤ length bytes.now) }
+        ensures some { IfOk result (λ from. AnsweredSome (state_of self.old (W.contents writer.old)) (lines_in bytes.now) (state_of self.new (W.contents writer.new)) (lines_in (drop from bytes.now))) }
+        ensures left { IfOk result (λ from. unfinished (drop from bytes.now) ≡ unfinished bytes.now) }
+        ensures none { IfOk result (λ from. from ≡ 0 → ltb self.old.work.answered last_number ≡ true → lines_in bytes.now ≡ []) }
     {
+        output::make_room(writer, &mut self.out, ANSWER_ROOM)?;
         let stop = answer_lines(
             self.archives.is_some(),
             &mut self.work,
             bytes,
             &mut self.out,
         );
-        let followed = stop.event.is_some();
         follow(rt, &mut self.archives, stop.event);
-        let flushed = output::make_room(rt, &mut self.out, ANSWER_ROOM)?;
-        if (followed | flushed) & (self.work.answered < u64::MAX) {
-            Ok(ControlFlow::Continue(stop.from))
-        } else {
-            Ok(ControlFlow::Break(stop.from))
+        Ok(stop.from)
+    }
+
+    // Answers all whole lines of a piece, while a line can have a number. Answers where what is left begins.
+    fn answer_whole<W: Write>(
+        &mut self,
+        rt: &HostRuntime,
+        writer: &mut W,
+        bytes: &[u8],
+    ) -> Result<usize, Failure<'static>>
+        ensures within { IfOk result (λ from. from ≤ length bytes.now) }
+        ensures lines { OnOk result (Answered (state_of self.old (W.contents writer.old)) (numbered (work_of self.old.work) (lines_in bytes.now)) (state_of self.new (W.contents writer.new))) }
+        ensures left { IfOk result (λ from. ltb self.new.work.answered last_number ≡ true → drop from bytes.now ≡ unfinished bytes.now) }
+    {
+        let mut from = 0;
+        while from < bytes.len() {
+            let count = self.answer_some(rt, writer, &bytes[from..])?;
+            if count == 0 {
+                return Ok(from);
+            }
+            from += count;
         }
+        Ok(from)
     }
 
     // Answers all whole lines of a piece, writes the answers out, and keeps what is left.
-    fn serve_piece(&mut self, rt: &HostRuntime, input: &mut Input) -> Result<(), Failure<'static>> {
-        let mut from = 0;
-        // Turns are counted, as every loop has to end: one that only writes out brings `from` no further.
-        for _ in 0..u64::MAX {
-            match self.answer_some(rt, &input.bytes[from..input.end])? {
-                ControlFlow::Continue(count) => from += count,
-                ControlFlow::Break(count) => {
-                    from += count;
-                    break;
-                }
-            }
-        }
-        output::flush(rt, &mut self.out)?;
+    fn serve_piece<W: Write>(
+        &mut self,
+        rt: &HostRuntime,
+        writer: &mut W,
+        input: &mut Input,
+    ) -> Result<(), Failure<'static>>
+        ensures lines { OnOk result (Answered (state_of self.old (W.contents writer.old)) (numbered (work_of self.old.work) (lines_in (take input.old.end input.old.bytes))) (state_of self.new (W.contents writer.new))) }
+        ensures all_out { OnOk result (self.new.out.len ≡ 0) }
+        ensures held { OnOk result (ltb self.new.work.answered last_number ≡ true → take input.new.held input.new.bytes ≡ handed (unfinished (take input.old.end input.old.bytes))) }
+    {
+        let from = self.answer_whole(rt, writer, &input.bytes[..input.end])?;
+        output::flush(writer, &mut self.out)?;
         input.keep(from);
         Ok(())
     }
 
-    // The end of the input: what stands after the last newline is a line too, unless it is empty (RULES 8.9).
-    fn serve_last(&mut self, rt: &HostRuntime, input: &mut Input) -> Result<(), Failure<'static>> {
+    // The end of the input: what stands after the last newline is a line too, unless it is empty (RULES 8.9). What is held
+    // has no newline.
+    fn serve_last<W: Write>(
+        &mut self,
+        rt: &HostRuntime,
+        writer: &mut W,
+        input: &mut Input,
+    ) -> Result<(), Failure<'static>>
+        requires { lines_in (take input.old.held input.old.bytes) ≡ [] }
+        ensures line { OnOk result (Answered (state_of self.old (W.contents writer.old)) (numbered (work_of self.old.work) (handed_on (last_line (take input.old.held input.old.bytes)))) (state_of self.new (W.contents writer.new))) }
+        ensures all_out { OnOk result (self.old.out.len ≡ 0 → self.new.out.len ≡ 0) }
+    {
         let held = input.held;
         if held == 0 {
             return Ok(());
         }
         input.bytes[held] = b'\n';
         input.end = held + 1;
-        self.serve_piece(rt, input)
+        self.serve_piece(rt, writer, input)
     }
 
     // Answers the input to its end, while a line can have a number.
-    fn serve_all(&mut self, rt: &HostRuntime) -> Result<(), Failure<'static>> {
+    fn serve_all<R: Read, W: Write>(
+        &mut self,
+        rt: &HostRuntime,
+        reader: &mut R,
+        writer: &mut W,
+    ) -> Result<(), Failure<'static>>
+        ensures lines { OnOk result (IfSome (R.remaining reader.old) (λ input. Answered (state_of self.old (W.contents writer.old)) (numbered (work_of self.old.work) (handed_on (lines_of input))) (state_of self.new (W.contents writer.new)))) }
+        ensures all_out { OnOk result (self.old.out.len ≡ 0 → self.new.out.len ≡ 0) }
+    {
         let mut input = Input::new();
         // Nothing says that an input ends.
         for _ in 0..u64::MAX {
-            input.read(rt)?;
+            input.read(reader)?;
             if input.end == input.held {
-                return self.serve_last(rt, &mut input);
+                return self.serve_last(rt, writer, &mut input);
             }
-            self.serve_piece(rt, &mut input)?;
+            self.serve_piece(rt, writer, &mut input)?;
             if self.work.answered == u64::MAX {
                 return Ok(());
             }
         }
-        Ok(())
+        Err(Failure {
+            what: b"standard input",
+            error: io::Error::from(io::ErrorKind::TimedOut),
+        })
     }
 }
 
-// Answers the script on standard input. Its runs go into the archives of a path, if there is one.
-pub(crate) fn serve(rt: &HostRuntime, path: Option<&[u8]>) {
+// Answers a script, from its first line on. Its runs go into the archives of a path, if there is one.
+fn serve_script<R: Read, W: Write>(
+    rt: &HostRuntime,
+    reader: &mut R,
+    writer: &mut W,
+    path: Option<&[u8]>,
+) -> Result<(), Failure<'static>>
+    ensures { OnOk result (IfSome (R.remaining reader.old) (λ input. Appends (W.contents writer.old) (W.contents writer.new) (output_of input))) }
+{
     let mut serving = Serving {
         work: Work::fresh(),
         archives: path.map(|path| Archives::new(path)),
         out: Text::new(),
     };
-    if let Err(failure) = serving.serve_all(rt) {
+    let served = serving.serve_all(rt, reader, writer);
+    if let Err(failure) = &served {
         failure.say(rt);
     }
     if let Some(archives) = &mut serving.archives {
         archives.end(rt);
     }
+    served
+}
+
+// Answers the script on standard input. What failed was said by then.
+pub(crate) fn serve(rt: &HostRuntime, path: Option<&[u8]>) {
+    let _ = serve_script(rt, &mut rt.stdin(), &mut rt.stdout(), path);
 }

@@ -29,7 +29,8 @@ impl<const N: usize> Text<N> {
     }
 
     pub(crate) fn room(&self) -> usize
-        ensures { result ≡ length self.now.bytes - self.now.len }
+        ensures room { result ≡ length self.now.bytes - self.now.len }
+        ensures whole { length self.now.bytes ≡ N }
     {
         N - self.len
     }
