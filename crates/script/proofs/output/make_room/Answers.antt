@@ -1,0 +1,5 @@
+use Rattle.std.proofs.Common.{◌-◌, ◌≤◌, length, arith}
+use Rattle.script.proofs.output.make_room.Goals as goal
+
+pub returns-then-needed-room-clause-room : goal.returns-then-needed-room-clause-room
+returns-then-needed-room-clause-room g c = omega arith
