@@ -9,3 +9,4 @@ pub mod Puts
 pub mod Joining
 pub mod Carried
 pub mod Reading
+pub mod Listed

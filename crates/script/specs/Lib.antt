@@ -5,3 +5,4 @@ pub mod Puts
 pub mod Archiving
 pub mod Sending
 pub mod Serving
+pub mod Failures

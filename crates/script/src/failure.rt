@@ -1,4 +1,6 @@
 // What is said on standard error of a call that failed.
+ghost use Rattle.script.specs.Failures.{ReasonOf};
+
 use crate::text::Text;
 use std::fmt::Write as _;
 use std::io;
@@ -15,7 +17,9 @@ pub struct Failure<'a> {
 }
 
 // The text without the system's number, which is put in brackets behind it.
-fn reason(text: &str) -> &str {
+fn reason(text: &str) -> &str
+    ensures { ReasonOf text.now result.now }
+{
     match text.split_once(" (os error ") {
         Some((before, _)) => before,
         None => text,

@@ -1,5 +1,9 @@
 #![tactic(auto)]
 // The script program: a command a line from standard input, an answer a line to standard output.
+ghost use Rattle.std.specs.Prelude.{◌≡◌};
+ghost use Rattle.std.specs.IoError.{raw_os_error};
+ghost use Rattle.script.specs.Failures.{system_number};
+
 mod answering;
 mod archive_file;
 mod failure;
@@ -19,7 +23,9 @@ use std::io;
 
 // What the system says of an argument that could not be copied.
 // It is no `From`: both types are the library's, so the trait's impl for them cannot stand in this crate.
-fn refusal(error: FillError) -> io::Error {
+fn refusal(error: FillError) -> io::Error
+    ensures { raw_os_error result ≡ Some (system_number error) }
+{
     match error {
         FillError::NotPresent => io::Error::from_raw_os_error(22),
         FillError::TooLong => io::Error::from_raw_os_error(36),

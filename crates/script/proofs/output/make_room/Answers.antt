@@ -1,4 +1,4 @@
-use Rattle.std.proofs.Common.{◌-◌, ◌≤◌, length, arith}
+use Rattle.std.proofs.Common.{arith}
 use Rattle.script.proofs.output.make_room.Goals as goal
 
 pub returns-then-needed-room-clause-room : goal.returns-then-needed-room-clause-room
