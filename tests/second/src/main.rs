@@ -16,6 +16,7 @@ mod script;
 #[cfg(test)]
 mod tests;
 
+use program::Ended;
 use std::process::ExitCode;
 
 const USAGE: &str = "usage:
@@ -35,21 +36,23 @@ fn main() -> ExitCode {
         ["script", "archive", file] => program::run_archiving(file),
         ["script", "records", file] => program::print_records(file),
         ["compare", options @ ..] => match compare_plan(options) {
-            Some(plan) if compare::run(&plan) => Ok(()),
+            Some(plan) if compare::run(&plan) => Ok(Ended::Well),
             Some(_) => return ExitCode::FAILURE,
             None => return usage(),
         },
-        ["bench"] => bench::run(PROGRAM.as_ref()),
-        ["bench", "--program", program] => bench::run(program.as_ref()),
-        ["bench", "growth"] => bench::growth(PROGRAM.as_ref()),
-        ["bench", "growth", "--program", program] => bench::growth(program.as_ref()),
+        ["bench"] => bench::run(PROGRAM.as_ref()).map(|()| Ended::Well),
+        ["bench", "--program", program] => bench::run(program.as_ref()).map(|()| Ended::Well),
+        ["bench", "growth"] => bench::growth(PROGRAM.as_ref()).map(|()| Ended::Well),
+        ["bench", "growth", "--program", program] => bench::growth(program.as_ref()).map(|()| Ended::Well),
         _ => return usage(),
     };
     match result {
-        Ok(()) => ExitCode::SUCCESS,
+        Ok(Ended::Well) => ExitCode::SUCCESS,
+        Ok(Ended::Refused) => ExitCode::from(1),
+        Ok(Ended::Unarchived) => ExitCode::from(3),
         Err(error) => {
             eprintln!("second: {error}");
-            ExitCode::FAILURE
+            ExitCode::from(3)
         }
     }
 }

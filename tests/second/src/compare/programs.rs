@@ -7,12 +7,12 @@ use super::shrink::shortest;
 use super::{Counts, Difference, Plan};
 use crate::archive::{Writer, Wrote, BLOCK};
 use crate::machine::Record;
-use crate::program::records_text;
+use crate::program::{records_text, Ended};
 use crate::random::Random;
 use crate::script::{Script, Sink, Unkept};
 use std::io::{self, Read as _, Write as _};
 use std::path::{Path, PathBuf};
-use std::process::{Child, ChildStdin, Command, Stdio};
+use std::process::{Child, ChildStdin, Command, ExitStatus, Stdio};
 use std::sync::mpsc::{channel, Receiver};
 use std::thread;
 use std::time::Duration;
@@ -57,27 +57,18 @@ impl Running {
     }
 
     /// Ends the input and takes the rest of the output.
-    fn end(self) -> io::Result<Vec<u8>> {
+    fn end(self, in_time: bool) -> io::Result<Outcome> {
         let Running { mut child, stdin, pieces, mut output } = self;
         drop(stdin);
         while let Ok(piece) = pieces.recv() {
             output.extend_from_slice(&piece);
         }
-        let ended = child.wait()?;
-        if !ended.success() {
-            output.extend_from_slice(format!("ended with {ended}\n").as_bytes());
-        }
-        Ok(output)
+        Ok(Outcome { output, in_time, ended: child.wait()? })
     }
 
     /// The program's answers to an input in pieces. With `in_step` each piece waits for the answers to the
-    /// lines before it, so that the pieces are read as they are cut; true if these came in time.
-    fn answers(
-        program: &mut Command,
-        input: &[u8],
-        sizes: &[usize],
-        in_step: bool,
-    ) -> io::Result<(Vec<u8>, bool)> {
+    /// lines before it, so that the pieces are read as they are cut.
+    fn answers(program: &mut Command, input: &[u8], sizes: &[usize], in_step: bool) -> io::Result<Outcome> {
         let mut running = Running::start(program)?;
         let mut own = Script::start();
         let mut expected = Vec::new();
@@ -95,7 +86,24 @@ impl Running {
                 in_time = running.reaches(expected.len());
             }
         }
-        Ok((running.end()?, in_time))
+        running.end(in_time)
+    }
+}
+
+/// What the program answered and how it ended; whether the answers that were waited for came in time.
+struct Outcome {
+    output: Vec<u8>,
+    in_time: bool,
+    ended: ExitStatus,
+}
+
+impl Outcome {
+    /// What it has otherwise: the first line, or the status that it ended with.
+    fn apart(&self, output: &[u8], status: i32) -> Option<String> {
+        first_line_apart(&self.output, output).or_else(|| {
+            (self.ended.code() != Some(status))
+                .then(|| format!("ended with {}, and not {status}", self.ended))
+        })
     }
 }
 
@@ -167,10 +175,10 @@ impl Drop for Folder {
 /// no file or an empty one.
 fn archives_differ(program: &Path, lines: &[Vec<u8>]) -> Option<String> {
     let input = lines.concat();
-    let run = || -> io::Result<(Vec<u8>, Vec<Vec<u8>>)> {
+    let run = || -> io::Result<(Outcome, Vec<Vec<u8>>)> {
         let folder = Folder::make()?;
         let first = folder.0.join("run");
-        let (theirs, _) = Running::answers(
+        let theirs = Running::answers(
             Command::new(program).arg("archive").arg(&first),
             &input,
             &[input.len()],
@@ -186,27 +194,28 @@ fn archives_differ(program: &Path, lines: &[Vec<u8>]) -> Option<String> {
         Err(error) => return Some(format!("{}: {error}", program.display())),
     };
     let (answers, mut archives) = own_archives(&input);
-    let apart = first_line_apart(&theirs, &answers);
+    let apart = theirs.apart(&answers, 0);
     archives.resize(lines.len(), Vec::new());
     let file = archives.iter().zip(&files).position(|(one, two)| one != two);
     apart.or_else(|| file.map(|file| format!("the archive of run {} differs", file + 1)))
 }
 
-/// Whether a file that stands in the archive's place stays as it is, and the answers go on.
-fn old_file_is_harmed(program: &Path) -> Option<String> {
+/// Whether a file that stands in the place of the first run's archive, or of the second's, is harmed, or a line is
+/// answered beside it.
+fn old_file_is_harmed(program: &Path, name: &str) -> Option<String> {
     let input = b"new 1 64\npoke 4 7\nshow 4\n";
-    let run = || -> io::Result<(Vec<u8>, Vec<u8>)> {
+    let run = || -> io::Result<(Outcome, Vec<u8>)> {
         let folder = Folder::make()?;
-        let file = folder.0.join("run");
-        std::fs::write(&file, b"old")?;
+        let old = folder.0.join(name);
+        std::fs::write(&old, b"old")?;
         let mut command = Command::new(program);
-        command.arg("archive").arg(&file).stderr(Stdio::null());
-        let (theirs, _) = Running::answers(&mut command, input, &[input.len()], false)?;
-        Ok((theirs, std::fs::read(&file)?))
+        command.arg("archive").arg(folder.0.join("run")).stderr(Stdio::null());
+        let theirs = Running::answers(&mut command, input, &[input.len()], false)?;
+        Ok((theirs, std::fs::read(&old)?))
     };
     match run() {
-        Ok((_, file)) if file != b"old" => Some("an old file was written over".to_string()),
-        Ok((theirs, _)) => first_line_apart(&theirs, &answers(input, &[])),
+        Ok((_, file)) if file != b"old" => Some(format!("the old file {name} was written over")),
+        Ok((theirs, _)) => theirs.apart(b"", 3).map(|what| format!("beside the old file {name}: {what}")),
         Err(error) => Some(format!("{}: {error}", program.display())),
     }
 }
@@ -229,15 +238,18 @@ fn random_archive(random: &mut Random) -> Vec<u8> {
 
 /// Whether the program lists an archive's records, and its refusal, as this package does.
 fn listings_differ(program: &Path, archive: &[u8]) -> Option<String> {
-    let run = || -> io::Result<Vec<u8>> {
+    let run = || -> io::Result<Outcome> {
         let folder = Folder::make()?;
         let file = folder.0.join("archive");
         std::fs::write(&file, archive)?;
-        let (theirs, _) = Running::answers(Command::new(program).arg("records").arg(&file), &[], &[], false)?;
-        Ok(theirs)
+        let mut command = Command::new(program);
+        // beside the number, standard error has what it means
+        command.arg("records").arg(&file).stderr(Stdio::null());
+        Running::answers(&mut command, &[], &[], false)
     };
+    let (text, ended) = records_text(archive);
     match run() {
-        Ok(theirs) => first_line_apart(&theirs, records_text(archive).as_bytes()),
+        Ok(theirs) => theirs.apart(text.as_bytes(), (ended == Ended::Refused) as i32),
         Err(error) => Some(format!("{}: {error}", program.display())),
     }
 }
@@ -246,14 +258,14 @@ fn listings_differ(program: &Path, archive: &[u8]) -> Option<String> {
 fn program_differs(program: &Path, lines: &[Vec<u8>], seed: u64, in_step: bool) -> Option<String> {
     let input = lines.concat();
     let sizes = random_sizes(&mut Random::new(seed), input.len());
-    let (theirs, in_time) = match Running::answers(&mut Command::new(program), &input, &sizes, in_step) {
+    let theirs = match Running::answers(&mut Command::new(program), &input, &sizes, in_step) {
         Ok(outcome) => outcome,
         Err(error) => return Some(format!("{}: {error}", program.display())),
     };
-    if let Some(what) = first_line_apart(&theirs, &answers(&input, &[])) {
+    if let Some(what) = theirs.apart(&answers(&input, &[]), 0) {
         return Some(what);
     }
-    (!in_time).then(|| "answers to the lines read so far did not come before more input".to_string())
+    (!theirs.in_time).then(|| "answers to the lines read so far did not come before more input".to_string())
 }
 
 /// The proved program against this package's script.
@@ -273,7 +285,9 @@ pub fn compare_program(plan: &Plan, counts: &mut Counts) -> Result<(), Differenc
         compare_script(&lines, counts, |lines| archives_differ(program, lines))?;
         counts.add("  scripts whose archive files were compared", 1);
     }
-    old_file_is_harmed(program).map_or(Ok(()), |what| Err(Difference::plain(what)))?;
+    for name in ["run", "run.2"] {
+        old_file_is_harmed(program, name).map_or(Ok(()), |what| Err(Difference::plain(what)))?;
+    }
     for number in 0..100 * plan.times {
         let archive = random_archive(&mut Random::part(plan.seed, "listed", number as u64));
         counts.add("archives listed by the program", 1);
