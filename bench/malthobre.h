@@ -1,4 +1,4 @@
-/* Malthobre for a bench in C, C++ or Rust: link target/staticlib/libbench.a (x86-64 Linux).
+/* Malthobre for a bench in C, C++ or Rust: link target/staticlib/libbench.a (x86-64 Linux), which bench/build makes.
  *
  * The library keeps no state and allocates nothing. The bench keeps one machine and one writer, each
  * a plain struct, and lends memory and both tables to each call. Every call takes any values and
@@ -26,12 +26,43 @@
 extern "C" {
 #endif
 
+/* ---- Sizes and numbers (docs/RULES.md, 3, 4.30 and 7) ---- */
+
+enum {
+    MALTHOBRE_MOST_CORES = 8,        /* the most cores; the first is 0 */
+    MALTHOBRE_MOST_BYTES = 65536,    /* the most bytes of memory; the least are 4 */
+    MALTHOBRE_MOST_ENTRIES = 4096,   /* the most entries of each table; the least is 1 */
+    MALTHOBRE_RECORD_BYTES = 16,     /* a record */
+    MALTHOBRE_BLOCK_BYTES = 512,     /* a block of an archive */
+    MALTHOBRE_BLOCK_RECORDS = 31,    /* the records of a block; the last one may have fewer */
+    MALTHOBRE_MOST_BLOCKS = 1048576, /* the most blocks of an archive */
+    MALTHOBRE_CORE_OF_POKE = 255     /* in a poke's record, in the core's place */
+};
+
+/* The operations, as malthobre_give takes them. */
+enum {
+    MALTHOBRE_OPERATION_LOAD = 1,
+    MALTHOBRE_OPERATION_LL = 2,    /* load-link */
+    MALTHOBRE_OPERATION_STORE = 3,
+    MALTHOBRE_OPERATION_SC = 4     /* store-conditional */
+};
+
+/* The kinds of a record: its byte 1. */
+enum {
+    MALTHOBRE_KIND_LOAD = 1,
+    MALTHOBRE_KIND_LL = 2,
+    MALTHOBRE_KIND_STORE = 3,
+    MALTHOBRE_KIND_SC_SUCCESS = 4,
+    MALTHOBRE_KIND_SC_FAILURE = 5, /* its value was not written */
+    MALTHOBRE_KIND_POKE = 6        /* a write by the bench */
+};
+
 /* ---- The structs, as laid out: offset and size in bytes ---- */
 
 /* Fields that the core's present state does not use are 0, or the machine is refused 5. */
 typedef struct malthobre_core {
     bool busy;         /*  0, 1 */
-    uint8_t operation; /*  1, 1: 1 load, 2 ll, 3 store, 4 sc */
+    uint8_t operation; /*  1, 1: MALTHOBRE_OPERATION_.. */
     uint8_t next;      /*  2, 1: the operation's next step, 1 to 4 */
     bool passed;       /*  3, 1: what a store-conditional's step 2 judged */
     bool linked;       /*  4, 1; 5 to 7 are padding, and of no meaning */
@@ -59,12 +90,36 @@ typedef struct malthobre_writer {
  *
  * Bits 0 to 7 are the rules' number, 0 to 18 (docs/RULES.md, 6.1); bits 8 to 15 say which
  * answer it is, 0 for a refusal; bits 16 to 31 are 0; bits 32 to 63 are the value, 0 where an answer has
- * none.
+ * none. So an answer below 256 and not 0 is a refusal, and its number is the answer.
  */
 #define MALTHOBRE_NUMBER(answer) ((unsigned)((answer)&0xff))
 #define MALTHOBRE_WORD(answer) ((unsigned)((answer) >> 8 & 0xff))
 #define MALTHOBRE_VALUE(answer) ((uint32_t)((answer) >> 32))
 
+/* The number: DONE, or that of the refusal. */
+enum {
+    MALTHOBRE_DONE = 0,                   /* done, moved, or waits */
+    MALTHOBRE_REFUSAL_NO_SUCH_CORE = 1,   /* there is no such core; start: the core count is none of 1 to 8 */
+    MALTHOBRE_REFUSAL_UNALIGNED = 2,      /* the address is no multiple of 4 */
+    MALTHOBRE_REFUSAL_OUTSIDE = 3,        /* the address is at or above memory's size */
+    MALTHOBRE_REFUSAL_LENT_LENGTHS = 4,   /* a lent length is not the machine's; start: it is not allowed */
+    MALTHOBRE_REFUSAL_OUT_OF_RANGE = 5,   /* machine or writer are out of their ranges: no call made them so */
+    MALTHOBRE_REFUSAL_DAMAGED = 6,        /* step: the tables are damaged at the entry in use: no call made them so */
+    MALTHOBRE_REFUSAL_BUSY = 7,           /* give: step the core until it answers */
+    MALTHOBRE_REFUSAL_IDLE = 8,           /* step: give the core an operation */
+    MALTHOBRE_REFUSAL_NOT_UNDERSTOOD = 9, /* give: the operation is none of the four; also of a script's line */
+    MALTHOBRE_REFUSAL_NO_MACHINE = 10,    /* of a script's line alone: no call answers it */
+    MALTHOBRE_REFUSAL_BLOCK_MARK = 11,    /* the block does not have the mark: it is none of an archive */
+    MALTHOBRE_REFUSAL_BLOCK_CHECK = 12,   /* the block's check is wrong: a byte of it has changed */
+    MALTHOBRE_REFUSAL_BLOCK_NUMBER = 13,  /* the block is another than the one expected */
+    MALTHOBRE_REFUSAL_RECORD_COUNT = 14,  /* the block's count of records is wrong, or it comes after a short one */
+    MALTHOBRE_REFUSAL_RECORD_FIELD = 15,  /* a record has a wrong field, or an unused byte is not 0 */
+    MALTHOBRE_REFUSAL_BLOCK_LENGTH = 16,  /* the block does not have 512 bytes, or the archive no multiple of them */
+    MALTHOBRE_REFUSAL_FULL = 17,          /* add: the archive has all the blocks that it can have */
+    MALTHOBRE_REFUSAL_CLOSED = 18         /* add, close: the archive is closed */
+};
+
+/* The word: which answer it is. */
 enum {
     MALTHOBRE_REFUSED = 0, /* the number is not 0, and the value is 0 */
     MALTHOBRE_READY = 1,   /* start */
@@ -103,7 +158,7 @@ typedef uint8_t malthobre_record[16];
 uint64_t malthobre_start(malthobre_machine *machine, size_t count, uint8_t *memory, size_t memory_length,
                          uint8_t *owners, size_t owners_length, uint8_t *holders, size_t holders_length);
 
-/* An operation (1 load, 2 ll, 3 store, 4 sc) for an idle core; a load and a load-link look at no value.
+/* An operation (MALTHOBRE_OPERATION_..) for an idle core; a load and a load-link look at no value.
  * Refused, in this order: 9 for an operation that is none of the four, which is the library's own
  * refusal; 5, 1, 7, 2, 3. Else TAKEN. */
 uint64_t malthobre_give(malthobre_machine *machine, size_t core, uint8_t operation, uint32_t address,
@@ -140,27 +195,53 @@ uint64_t malthobre_writer_add(malthobre_writer *writer, uint8_t *block, size_t b
  * Refused, in this order: 5, 18, 16. Else NO_BLOCK or BLOCK. */
 uint64_t malthobre_writer_close(malthobre_writer *writer, uint8_t *block, size_t block_length);
 
-/* ---- The archive's reader ---- */
+/* ---- The archive's reader ----
+ *
+ * The two calls of a block read that block. The three of a whole archive each read all of it, once, however little
+ * they answer: asked for one record after the other, malthobre_archive_record reads the archive once for each.
+ * To go through an archive in a single pass, go block by block, and stop at the first refusal:
+ *
+ *     bool short_before = false;
+ *     for (uint32_t b = 0; b < length / MALTHOBRE_BLOCK_BYTES; b++) {
+ *         const uint8_t *block = archive + (size_t)b * MALTHOBRE_BLOCK_BYTES;
+ *         size_t place = 0;
+ *         for (; place < MALTHOBRE_BLOCK_RECORDS; place++) {
+ *             uint64_t answer = malthobre_block_record(block, MALTHOBRE_BLOCK_BYTES, b, short_before, place, record);
+ *             if (MALTHOBRE_NUMBER(answer) != MALTHOBRE_DONE) return refused(b, MALTHOBRE_NUMBER(answer));
+ *             if (MALTHOBRE_WORD(answer) == MALTHOBRE_NO_RECORD) break;
+ *             use(record);
+ *         }
+ *         short_before = place < MALTHOBRE_BLOCK_RECORDS;
+ *     }
+ *
+ * That hands out what malthobre_archive_record does, and refuses at the block and by the number of
+ * malthobre_archive_decided_by and malthobre_archive_check, where length is a multiple of MALTHOBRE_BLOCK_BYTES; where
+ * it is not, the archive is refused 16 before any record. No more of the archive than the block has to be in
+ * memory. (bench/example/bench.c does so.)
+ */
 
-/* Whether a block is the one expected here; `after_short`: whether the block before was short.
- * Refused, in this order: 16, 12, 11, 13, 14, 15. Else GOOD. */
+/* Whether a block is the one expected here; `after_short`: whether the block before was short, with fewer
+ * than 31 records. Refused, in this order: 16, 12, 11, 13, 14, 15. Else GOOD. Reads the block. */
 uint64_t malthobre_block_check(const uint8_t *block, size_t block_length, uint32_t expected, bool after_short);
 
 /* The record at a place of a block, which is checked as above, with the same refusals; `record` is then
- * as it was. Else RECORD, and `record` is its 16 bytes; past the last one NO_RECORD, and 16 zero bytes. */
+ * as it was. Else RECORD, and `record` is its 16 bytes; past the last one NO_RECORD, and 16 zero bytes.
+ * Reads the block. */
 uint64_t malthobre_block_record(const uint8_t *block, size_t block_length, uint32_t expected, bool after_short,
                                 size_t place, malthobre_record record);
 
 /* A whole archive. Refused 16, if its length is no multiple of 512; else the first refused block decides,
- * by its number. Else HOLDS. Like each of the next two, it reads the whole archive. */
+ * by its number. Else HOLDS. Linear: reads the archive, up to that block. */
 uint64_t malthobre_archive_check(const uint8_t *archive, size_t archive_length);
 
 /* Which block decided that the archive is refused, as above: DECIDED, with its index (at most 1,048,576).
- * NONE_DECIDED where the archive is accepted, and where its length is refused. Never refused. */
+ * NONE_DECIDED where the archive is accepted, and where its length is refused. Never refused.
+ * Linear: reads the archive, up to that block. */
 uint64_t malthobre_archive_decided_by(const uint8_t *archive, size_t archive_length);
 
 /* The record of a number, in an archive that is checked whole as above, with the same refusals; `record`
- * is then as it was. Else RECORD, and `record` is its 16 bytes; NO_RECORD, and 16 zero bytes. */
+ * is then as it was. Else RECORD, and `record` is its 16 bytes; NO_RECORD, and 16 zero bytes.
+ * Linear: reads the whole archive, for a single record too. */
 uint64_t malthobre_archive_record(const uint8_t *archive, size_t archive_length, uint32_t number,
                                   malthobre_record record);
 

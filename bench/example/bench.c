@@ -1,12 +1,23 @@
 /* A bench in C: plays the small runs P1 to P9 (docs/RULES.md, 9) on one machine, archives what they did and
  * reads the archive back. It ends with status 1 at the first answer that is not the rules'. */
-#include "../malthobre.h"
+#include "malthobre.h"
 #include <stdio.h>
 #include <stdlib.h>
 #include <string.h>
 
-enum { CORES = 3, BYTES = 64, ENTRIES = 4, LOAD = 1, LL, STORE, SC, POKE };
+enum {
+    CORES = 3,
+    BYTES = 64,
+    ENTRIES = 4,
+    LOAD = MALTHOBRE_OPERATION_LOAD,
+    LL = MALTHOBRE_OPERATION_LL,
+    STORE = MALTHOBRE_OPERATION_STORE,
+    SC = MALTHOBRE_OPERATION_SC,
+    POKE = 5 /* no operation: malthobre_poke does it */
+};
 static const char *const NAMES[] = {"", "load", "ll", "store", "sc", "poke"};
+/* The word of an operation's last answer. */
+static const unsigned ANSWERS[] = {0, MALTHOBRE_LOAD, MALTHOBRE_LL, MALTHOBRE_STORE, MALTHOBRE_SC};
 
 /* One operation, run whole, with the value that the rules have it answer. */
 typedef struct { int run, core, what; uint32_t address, value, answer; } Operation;
@@ -26,11 +37,12 @@ static const Operation RUNS[] = {
 /* The machine and the writer stand here for the whole session. */
 static malthobre_machine machine;
 static malthobre_writer writer;
-static uint8_t memory[BYTES], owners[ENTRIES], holders[ENTRIES], block[512], archive[1024];
+static uint8_t memory[BYTES], owners[ENTRIES], holders[ENTRIES];
+static uint8_t block[MALTHOBRE_BLOCK_BYTES], archive[2 * MALTHOBRE_BLOCK_BYTES];
 static size_t stored;
 
 static void expect(uint64_t answer, unsigned word, uint32_t value) {
-    if (MALTHOBRE_NUMBER(answer) != 0 || MALTHOBRE_WORD(answer) != word || MALTHOBRE_VALUE(answer) != value) {
+    if (MALTHOBRE_NUMBER(answer) != MALTHOBRE_DONE || MALTHOBRE_WORD(answer) != word || MALTHOBRE_VALUE(answer) != value) {
         printf("WRONG: number %u, answer %u, value %u\n", MALTHOBRE_NUMBER(answer), MALTHOBRE_WORD(answer), MALTHOBRE_VALUE(answer));
         exit(1);
     }
@@ -38,21 +50,21 @@ static void expect(uint64_t answer, unsigned word, uint32_t value) {
 
 static void put_out(uint64_t answer) {
     if (MALTHOBRE_WORD(answer) == MALTHOBRE_BLOCK) {
-        memcpy(archive + stored, block, 512);
-        stored += 512;
+        memcpy(archive + stored, block, sizeof block);
+        stored += sizeof block;
     } else {
         expect(answer, MALTHOBRE_NO_BLOCK, 0);
     }
 }
 
 static void keep(const malthobre_record record) {
-    if (record[1] != 0) put_out(malthobre_writer_add(&writer, block, 512, record));
+    if (record[1] != 0) put_out(malthobre_writer_add(&writer, block, sizeof block, record));
 }
 
 static uint64_t step(size_t core) {
     malthobre_record record;
     uint64_t answer = malthobre_step(&machine, memory, BYTES, owners, ENTRIES, holders, ENTRIES, core, record);
-    if (MALTHOBRE_NUMBER(answer) == 0) keep(record); /* a refused step leaves `record` as it was */
+    if (MALTHOBRE_NUMBER(answer) == MALTHOBRE_DONE) keep(record); /* a refused step leaves `record` as it was */
     return answer;
 }
 
@@ -72,7 +84,7 @@ static void run(const Operation *o) {
         expect(step(o->core), MALTHOBRE_MOVED, 0);
         printf(" moved");
     }
-    expect(step(o->core), MALTHOBRE_LOAD + o->what - LOAD, o->answer);
+    expect(step(o->core), ANSWERS[o->what], o->answer);
     printf(" %s", NAMES[o->what]);
     if (o->what != STORE) printf(" %u", o->answer);
     printf("\n");
@@ -80,22 +92,51 @@ static void run(const Operation *o) {
 
 static uint32_t four(const uint8_t *b) { return b[0] | b[1] << 8 | b[2] << 16 | (uint32_t)b[3] << 24; }
 
-static void read_back(void) {
-    uint64_t whole = malthobre_archive_check(archive, stored);
-    expect(whole, MALTHOBRE_HOLDS, 38);
-    expect(malthobre_archive_decided_by(archive, stored), MALTHOBRE_NONE_DECIDED, 0);
-    printf("archive: %u bytes, %u records\n", (unsigned)stored, MALTHOBRE_VALUE(whole));
-    for (uint32_t n = 0; n < MALTHOBRE_VALUE(whole); n++) {
-        malthobre_record of_block, of_archive;
-        expect(malthobre_block_record(archive + n / 31 * 512, 512, n / 31, false, n % 31, of_block), MALTHOBRE_RECORD, 0);
-        expect(malthobre_archive_record(archive, stored, n, of_archive), MALTHOBRE_RECORD, 0);
-        if (memcmp(of_block, of_archive, 16) != 0) exit(1);
-        printf("%u: core %u kind %u address %u value %u\n", four(of_block + 12), of_block[0], of_block[1], four(of_block + 4), four(of_block + 8));
+static void print_record(const malthobre_record r) {
+    printf("%u: core %u kind %u address %u value %u\n", four(r + 12), r[0], r[1], four(r + 4), four(r + 8));
+}
+
+/* How many records a pass came to and the last of them, and which block was refused, by what number: DONE where none. */
+typedef struct { uint32_t records, block; unsigned number; malthobre_record last; } Pass;
+
+/* Goes through the archive once, block by block, as far as the first block that is refused. */
+static Pass pass(void (*use)(const malthobre_record)) {
+    Pass p = {0, 0, MALTHOBRE_DONE, {0}};
+    bool short_before = false;
+    for (; p.block < stored / MALTHOBRE_BLOCK_BYTES; p.block++) {
+        const uint8_t *here = archive + (size_t)p.block * MALTHOBRE_BLOCK_BYTES;
+        size_t place = 0;
+        for (; place < MALTHOBRE_BLOCK_RECORDS; place++) {
+            malthobre_record record;
+            uint64_t answer = malthobre_block_record(here, MALTHOBRE_BLOCK_BYTES, p.block, short_before, place, record);
+            p.number = MALTHOBRE_NUMBER(answer);
+            if (p.number != MALTHOBRE_DONE) return p;
+            if (MALTHOBRE_WORD(answer) == MALTHOBRE_NO_RECORD) break;
+            memcpy(p.last, record, sizeof record);
+            p.records++;
+            if (use) use(record);
+        }
+        short_before = place < MALTHOBRE_BLOCK_RECORDS;
     }
+    return p;
+}
+
+/* The pass says of an archive what the calls of a whole archive do. */
+static void read_back(void) {
+    printf("archive: %u bytes, %u records\n", (unsigned)stored, pass(NULL).records);
+    Pass good = pass(print_record);
+    expect(malthobre_archive_check(archive, stored), MALTHOBRE_HOLDS, 38);
+    expect(malthobre_archive_decided_by(archive, stored), MALTHOBRE_NONE_DECIDED, 0);
+    malthobre_record last;
+    expect(malthobre_archive_record(archive, stored, 37, last), MALTHOBRE_RECORD, 0);
+    if (good.number != MALTHOBRE_DONE || good.records != 38 || memcmp(good.last, last, sizeof last) != 0) exit(1);
+
     archive[600] ^= 1;
-    uint64_t by = malthobre_archive_decided_by(archive, stored);
-    expect(by, MALTHOBRE_DECIDED, 1);
-    printf("a bit of block 1 turned: refused %u, by block %u\n", MALTHOBRE_NUMBER(malthobre_archive_check(archive, stored)), MALTHOBRE_VALUE(by));
+    Pass bad = pass(NULL);
+    expect(malthobre_archive_decided_by(archive, stored), MALTHOBRE_DECIDED, bad.block);
+    if (malthobre_archive_check(archive, stored) != bad.number || bad.records != 31) exit(1);
+    if (bad.number != MALTHOBRE_REFUSAL_BLOCK_CHECK) exit(1);
+    printf("a bit of block 1 turned: refused %u, by block %u\n", bad.number, bad.block);
 }
 
 int main(void) {
@@ -108,7 +149,7 @@ int main(void) {
         }
         run(&RUNS[i]);
     }
-    put_out(malthobre_writer_close(&writer, block, 512));
+    put_out(malthobre_writer_close(&writer, block, sizeof block));
     read_back();
     return 0;
 }

@@ -40,6 +40,9 @@ const SC: u8 = 4;
 const POKE: u8 = 5;
 const NAMES: [&str; 5] = ["", "load", "ll", "store", "sc"];
 const BLOCK: u64 = 12;
+// Whole answers: the number 0, and which answer it is.
+const NO_RECORD: u64 = 14 << 8;
+const RECORD: u64 = 15 << 8;
 
 // Run, core, operation, address, value, and the value that the rules have it answer.
 const RUNS: [(u8, usize, u8, u32, u32, u32); 38] = [
@@ -119,25 +122,48 @@ impl Bench {
         println!("{line}");
     }
 
-    fn read_back(&mut self) {
-        let all = &mut self.archive;
-        let whole = unsafe { malthobre_archive_check(all.as_ptr(), all.len()) };
-        expect(whole, 16, 38);
-        expect(unsafe { malthobre_archive_decided_by(all.as_ptr(), all.len()) }, 17, 0);
-        println!("archive: {} bytes, {} records", all.len(), whole >> 32);
-        for n in 0..38u32 {
-            let (mut of_block, mut of_archive) = ([0; 16], [0; 16]);
-            let at = n as usize / 31 * 512;
-            expect(unsafe { malthobre_block_record(all[at..].as_ptr(), 512, n / 31, false, n as usize % 31, &mut of_block) }, 15, 0);
-            expect(unsafe { malthobre_archive_record(all.as_ptr(), all.len(), n, &mut of_archive) }, 15, 0);
-            assert_eq!(of_block, of_archive);
-            let four = |i: usize| u32::from_le_bytes(of_block[i..i + 4].try_into().unwrap());
-            println!("{}: core {} kind {} address {} value {}", four(12), of_block[0], of_block[1], four(4), four(8));
+    // Goes through the archive once, block by block, as far as the first block that is refused: its records, that
+    // block's index and the number of its refusal, or 0.
+    fn pass(&self) -> (Vec<[u8; 16]>, usize, u64) {
+        let mut records = Vec::new();
+        let mut short_before = false;
+        for (index, block) in self.archive.chunks_exact(512).enumerate() {
+            let before = records.len();
+            for place in 0..31 {
+                let mut record = [0; 16];
+                let answer = unsafe { malthobre_block_record(block.as_ptr(), 512, index as u32, short_before, place, &mut record) };
+                match answer {
+                    RECORD => records.push(record),
+                    NO_RECORD => break,
+                    refusal => return (records, index, refusal),
+                }
+            }
+            short_before = records.len() - before < 31;
         }
-        all[600] ^= 1;
-        let by = unsafe { malthobre_archive_decided_by(all.as_ptr(), all.len()) };
-        expect(by, 18, 1);
-        println!("a bit of block 1 turned: refused {}, by block {}", unsafe { malthobre_archive_check(all.as_ptr(), all.len()) } & 0xff, by >> 32);
+        (records, self.archive.len() / 512, 0)
+    }
+
+    // The pass says of an archive what the calls of a whole archive do.
+    fn read_back(&mut self) {
+        let (records, _, refusal) = self.pass();
+        assert_eq!((records.len(), refusal), (38, 0));
+        println!("archive: {} bytes, {} records", self.archive.len(), records.len());
+        for record in &records {
+            let four = |i: usize| u32::from_le_bytes(record[i..i + 4].try_into().unwrap());
+            println!("{}: core {} kind {} address {} value {}", four(12), record[0], record[1], four(4), four(8));
+        }
+        let mut last = [0; 16];
+        expect(unsafe { malthobre_archive_check(self.archive.as_ptr(), self.archive.len()) }, 16, 38);
+        expect(unsafe { malthobre_archive_decided_by(self.archive.as_ptr(), self.archive.len()) }, 17, 0);
+        expect(unsafe { malthobre_archive_record(self.archive.as_ptr(), self.archive.len(), 37, &mut last) }, 15, 0);
+        assert_eq!(records.last(), Some(&last));
+
+        self.archive[600] ^= 1;
+        let (records, index, refusal) = self.pass();
+        assert_eq!((records.len(), refusal), (31, 12));
+        assert_eq!(unsafe { malthobre_archive_check(self.archive.as_ptr(), self.archive.len()) }, refusal);
+        expect(unsafe { malthobre_archive_decided_by(self.archive.as_ptr(), self.archive.len()) }, 18, index as u32);
+        println!("a bit of block 1 turned: refused {refusal}, by block {index}");
     }
 }
 
