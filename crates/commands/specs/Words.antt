@@ -86,8 +86,11 @@ delivered_word (Ll v) = operation_word (Asked.Ll nowhere)
 delivered_word Store = operation_word (Asked.Store nowhere 0)
 delivered_word (Sc v) = operation_word (Asked.Sc nowhere 0)
 
+abbrev pub refused_word : List ℕ
+refused_word = codes "refused"
+
 abbrev pub answer_word : Result Answer Refusal → List ℕ
-answer_word (Err refusal) = codes "refused"
+answer_word (Err refusal) = refused_word
 answer_word (Ok Ready) = codes "ready"
 answer_word (Ok Taken) = codes "taken"
 answer_word (Ok Moved) = codes "moved"
