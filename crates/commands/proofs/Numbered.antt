@@ -1,6 +1,6 @@
 -- The digits of a line's number, kept from line to line, and what follows them.
 -- Assumes nothing.
-use Rattle.std.specs.Prelude.{Option, Some, None, Result, Ok, Err}
+use Rattle.std.specs.Prelude.{Option, Some, None, Result}
 use Rattle.std.proofs.Common.{if◌then◌else◌}
 use mathlib.Core.Path.{◌≡◌, refl, ap, ◌∙◌, sym}
 use mathlib.Core.Bool.{Bool, true, false}
@@ -11,13 +11,11 @@ use lib.ListN.{length, take, drop, replicate, length-append}
 use lib.Seq.{take_at, length-take-le}
 use lib.Dec.{leb, ltb}
 use borrow.Author.Tests.{lt-ltb, le-leb, leb-true, ltb-true}
-use Rattle.rules.specs.Refusals.{number_in}
 use Rattle.rules.specs.declared.answers.Answer.{Answer}
 use Rattle.rules.specs.declared.refusals.Refusal.{Refusal}
-use Rattle.commands.specs.Bytes.{space, newline, put_in}
+use Rattle.commands.specs.Bytes.{put_in}
 use Rattle.commands.specs.Decimal.{decimal}
-use Rattle.commands.specs.Words.{refused_word, answer_word}
-use Rattle.commands.specs.Texts.{answer_words, rest_room, line_room, rest_with, rest_of, rest_refused, text_put, text_end, line_put, line_end, answer_put, answer_end}
+use Rattle.commands.specs.Texts.{line_put, line_end, answer_put, answer_end}
 use Rattle.commands.specs.Texts.{line_number_of, can_stand, two_digits, digits_stand, line_number, counted_on, digits_of, PutBefore}
 use Rattle.commands.specs.Promises.{DigitsAre, CountsOn}
 use Rattle.commands.specs.declared.text.LineNumber.{LineNumber}
@@ -137,33 +135,3 @@ put_three s t u at out out₁ out₂ out₃ e₁ e₂ e₃ p q r room =
     let two = put_then s t at out out₁ out₂ e₁ e₂ p q (omega arith) in
     let l : length (s ++ t) ≡ length s + length t = length-append s t in
     put_then (s ++ t) u at out out₂ out₃ e₂ e₃ two r (omega arith)
-
--- what follows a line's number has no fewer bytes than are covered with it
-rest_some : (number : ℕ) (words : List ℕ) → 1 ≤ length words → 5 ≤ length (rest_with number words)
-rest_some number words some = let n = one_some number in simp length-append (omega arith)
-
-pub answered_some : (answer : Answer) → 5 ≤ length (rest_of (Ok answer))
-unfolding rest_of answer_words
-answered_some answer = rest_some 0 (answer_words (Ok answer)) (simp length-append (omega (arith, some answer)))
-  where
-    some : (a : Answer) → 1 ≤ length (answer_word (Ok a))
-    some a = grind arith
-
-pub refused_some : (refusal : ℕ) → 5 ≤ length (rest_refused refusal)
-unfolding rest_refused
-refused_some refusal = rest_some refusal refused_word (omega arith)
-
--- what is known once a line was to be written
-abbrev LinePut : List ℕ → ℕ → List ℕ → List ℕ → ℕ → Type 0
-LinePut text at out out' end = (out' ≡ text_put text out at) × ((end ≡ text_end text (length out) at) × (end ≤ at + line_room))
-
-pub line_written : (digits rest : List ℕ) (at : ℕ) (out out₁ out₂ : List ℕ) (e₁ e₂ : ℕ) → 5 ≤ length rest → leb (at + line_room) (length out) ≡ true
-    → NumberPut digits at out out₁ e₁ → Put rest e₁ out₁ out₂ e₂ → e₂ ≤ e₁ + rest_room → LinePut (digits ++ rest) at out out₂ e₂
-line_written digits rest at out out₁ out₂ e₁ e₂ some here p q few =
-    let room = leb-true (at + line_room) (length out) here in
-    let begin = p.1.0 in
-    let low = p.1.1 in
-    let end = q.ends in
-    let bytes : out₂ ≡ put_in (digits ++ rest) at out = q.bytes ∙ ap (λ (j : ℕ). put_in rest j out₁) begin ∙ p.0 rest some (omega arith) in
-    let ends : e₂ ≡ at + length (digits ++ rest) = rw length-append (omega arith) in
-    rw here (bytes, (ends, omega arith))

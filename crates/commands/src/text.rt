@@ -26,7 +26,7 @@ ghost use Rattle.commands.specs.Texts.{
 use crate::bytes::put;
 use crate::decimal::put_decimal;
 use crate::words::{LL, LOAD, SC, STORE};
-use machine::{Answer, Delivered, Refusal};
+use machine::{Answer, Delivered, Refusal, number_of};
 
 // `out` and `at` stay two parameters: the public `answer_line` takes the two, its clauses `text`, `end` and `fits`
 // speak of them, and lent bytes of any length must do.
@@ -228,6 +228,7 @@ fn has_room(lent: usize, at: usize) -> bool
 
 // Writes a refusal's line in at a place of the lent bytes, where there is room for the longest, and answers where it
 // ends. It is public, since a caller may have refusals of its own, with numbers that the rules don't give.
+#[tactic(auto, unfolding(crate::specs::Texts::refused_text, crate::specs::Texts::rest_refused))]
 pub fn refused_line(
     number: u64,
     line: Option<LineNumber>,
@@ -246,27 +247,7 @@ pub fn refused_line(
     put_refused(refusal, out, to)
 }
 
-// The same of an answer that is no refusal.
-fn answered_line(
-    number: u64,
-    line: Option<LineNumber>,
-    answer: Answer,
-    out: &mut [u8],
-    at: usize,
-) -> usize
-    ensures text { out.new ≡ line_put (digits_of number line) (Ok answer) out.old at }
-    ensures end { result ≡ line_end (digits_of number line) (Ok answer) (length out.old) at }
-    ensures fits { result ≤ at + line_room }
-{
-    if !has_room(out.len(), at) {
-        return at;
-    }
-    let to = put_line_number(number, line, out, at);
-    put_answered(answer, out, to)
-}
-
-// Writes an answer's line in at a place of the lent bytes, where there is room for the longest, and answers where it
-// ends.
+// The same of any answer: a refusal's line is that of its number.
 #[tactic(auto, unfolding(crate::specs::Texts::line_text, crate::specs::Texts::rest_of, crate::specs::Texts::answer_words, crate::specs::Texts::refused_text, crate::specs::Texts::rest_refused))]
 pub fn answer_line(
     number: u64,
@@ -279,8 +260,12 @@ pub fn answer_line(
     ensures end { result ≡ line_end (digits_of number line) answer (length out.old) at }
     ensures fits { result ≤ at + line_room }
 {
-    match answer {
-        Err(refusal) => refused_line(number, line, refusal.number(), out, at),
-        Ok(answer) => answered_line(number, line, answer, out, at),
+    let Ok(done) = answer else {
+        return refused_line(number, line, number_of(&answer), out, at);
+    };
+    if !has_room(out.len(), at) {
+        return at;
     }
+    let to = put_line_number(number, line, out, at);
+    put_answered(done, out, to)
 }
