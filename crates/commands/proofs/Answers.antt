@@ -12,9 +12,9 @@ use Rattle.rules.specs.declared.answers.Answer.{Answer}
 use Rattle.rules.specs.declared.refusals.Refusal.{Refusal}
 use Rattle.commands.specs.Bytes.{space, newline, first_field, more_fields, after_field}
 use Rattle.commands.specs.Decimal.{decimal}
-use Rattle.commands.specs.Words.{answer_word}
-use Rattle.commands.specs.Texts.{values_text, answer_words, words_room, number_text, rest_of, line_text, answer_line}
-use Rattle.commands.specs.Promises.{AnswerReads, AllSmall, AnswerFits}
+use Rattle.commands.specs.Words.{refused_word, answer_word}
+use Rattle.commands.specs.Texts.{values_text, answer_words, words_room, number_text, rest_with, rest_of, rest_refused, line_text, refused_text, line_room}
+use Rattle.commands.specs.Promises.{LineParts, AnswerReads, RefusedReads, AllSmall, AnswerFits, RefusedFits}
 use Rattle.commands.proofs.Placed.{decimal_few}
 use Rattle.commands.proofs.Decimals.{decimal_plain}
 use Rattle.commands.proofs.Fields.{before_then, some_then, after_then}
@@ -23,29 +23,36 @@ use Rattle.commands.proofs.Fields.{before_then, some_then, after_then}
 text_then : (n : ℕ) (s : List ℕ) → number_text n ++ s ≡ decimal n ++ space ∷ s
 text_then n s = append_assoc (decimal n) (space ∷ []) s
 
-answer_split : (number : ℕ) (answer : Result Answer Refusal)
-    → answer_line number answer ≡ decimal number ++ space ∷ (decimal (number_in answer) ++ space ∷ (answer_words answer ++ newline ∷ []))
-unfolding line_text rest_of
-answer_split number answer =
-    let second = number_text (number_in answer) in
+-- a line of any words
+line_split : (number answered : ℕ) (words : List ℕ)
+    → decimal number ++ rest_with answered words ≡ decimal number ++ space ∷ (decimal answered ++ space ∷ (words ++ newline ∷ []))
+line_split number answered words =
     let end = newline ∷ [] in
-    ap (λ (s : List ℕ). decimal number ++ space ∷ s) (append_assoc second (answer_words answer) end ∙ text_then (number_in answer) (answer_words answer ++ end))
+    ap (λ (s : List ℕ). decimal number ++ space ∷ s) (append_assoc (number_text answered) words end ∙ text_then answered (words ++ end))
 
-pub answer_reads : AnswerReads
-answer_reads number answer =
-    let split = answer_split number answer in
-    let last = answer_words answer ++ newline ∷ [] in
-    let rest = decimal (number_in answer) ++ space ∷ last in
+line_reads : (number answered : ℕ) (words : List ℕ) → LineParts number answered words (decimal number ++ rest_with answered words)
+line_reads number answered words =
+    let split = line_split number answered words in
+    let last = words ++ newline ∷ [] in
+    let rest = decimal answered ++ space ∷ last in
     let line = decimal_plain number in
-    let digits = decimal_plain (number_in answer) in
-    let after : after_field (answer_line number answer) ≡ rest = ap after_field split ∙ after_then space (decimal number) rest line in
+    let digits = decimal_plain answered in
+    let after : after_field (decimal number ++ rest_with answered words) ≡ rest = ap after_field split ∙ after_then space (decimal number) rest line in
     record {
       number_first = ap first_field split ∙ before_then space (decimal number) rest line;
       then_answer = ap more_fields split ∙ some_then space (decimal number) rest line;
-      answer_number = ap first_field after ∙ before_then space (decimal (number_in answer)) last digits;
-      then_words = ap more_fields after ∙ some_then space (decimal (number_in answer)) last digits;
-      words = ap after_field after ∙ after_then space (decimal (number_in answer)) last digits;
+      answer_number = ap first_field after ∙ before_then space (decimal answered) last digits;
+      then_words = ap more_fields after ∙ some_then space (decimal answered) last digits;
+      words = ap after_field after ∙ after_then space (decimal answered) last digits;
     }
+
+pub answer_reads : AnswerReads
+unfolding line_text rest_of
+answer_reads number answer = line_reads number (number_in answer) (answer_words answer)
+
+pub refused_reads : RefusedReads
+unfolding refused_text rest_refused
+refused_reads number refusal = line_reads number refusal refused_word
 
 -- a value's text, and room for it beside a word
 values_few : (values : List ℕ) → AllSmall values → length (values_text values) ≤ 11 * length values
@@ -78,12 +85,20 @@ numbers_small (Err refusal) = small refusal
     small : (r : Refusal) → refusal_number r < 19
     small r = grind arith
 
-pub answer_fits : AnswerFits
-answer_fits number answer l h =
+line_fits : (number answered : ℕ) (words : List ℕ) → number < 18446744073709551616 → answered < 4294967296 → length words ≤ words_room
+    → length (decimal number ++ rest_with answered words) ≤ line_room
+line_fits number answered words l m r =
     let p = decimal_few number 19 (omega (arith, l)) in
-    let q = decimal_few (number_in answer) 9 (omega (arith, numbers_small answer)) in
-    let r = words_few answer h in
-    let end = answer_words answer ++ newline ∷ [] in
-    let last : length end ≤ 16 = rw (length-append (answer_words answer) (newline ∷ [])) (omega (arith, r)) in
-    let rest : length (decimal (number_in answer) ++ space ∷ end) ≤ words_room + 12 = rw (length-append (decimal (number_in answer)) (space ∷ end)) (omega (arith, q, last)) in
-    rw (answer_split number answer, length-append (decimal number) (space ∷ (decimal (number_in answer) ++ space ∷ end))) (omega (arith, p, rest))
+    let q = decimal_few answered 9 (omega (arith, m)) in
+    let end = words ++ newline ∷ [] in
+    let last : length end ≤ 16 = rw (length-append words (newline ∷ [])) (omega (arith, r)) in
+    let rest : length (decimal answered ++ space ∷ end) ≤ words_room + 12 = rw (length-append (decimal answered) (space ∷ end)) (omega (arith, q, last)) in
+    rw (line_split number answered words, length-append (decimal number) (space ∷ (decimal answered ++ space ∷ end))) (omega (arith, p, rest))
+
+pub answer_fits : AnswerFits
+unfolding line_text rest_of
+answer_fits number answer l h = line_fits number (number_in answer) (answer_words answer) l (omega (arith, numbers_small answer)) (words_few answer h)
+
+pub refused_fits : RefusedFits
+unfolding refused_text rest_refused
+refused_fits number refusal l m = line_fits number refusal refused_word l m (omega arith)

@@ -45,6 +45,9 @@ use Rattle.commands.proofs.text.counted_on.Reads as counted-on-reads
 use Rattle.commands.specs.contracts.text.answer_line as answer-line
 use Rattle.commands.proofs.text.answer_line.Kinds as answer-line-kinds
 use Rattle.commands.proofs.text.answer_line.Reads as answer-line-reads
+use Rattle.commands.specs.contracts.text.refused_line as refused-line
+use Rattle.commands.proofs.text.refused_line.Kinds as refused-line-kinds
+use Rattle.commands.proofs.text.refused_line.Reads as refused-line-reads
 use Rattle.commands.proofs.words.number_word.Kinds as number-word-kinds
 use Rattle.commands.proofs.words.number_word.Reads as number-word-reads
 
@@ -96,6 +99,13 @@ module _ (κs : Lfts 1) (a : ArgsD answer-line.signature κs) (one other : ℕ) 
 
   pub answer_line_determined : answer-line-reads.Post κs a one s → answer-line-reads.Post κs a other t → one ≡ other
   answer_line_determined p q = one-outcome ℕ _ _ _ p.1.0 q.1.0
+
+module _ (κs : Lfts 1) (a : ArgsD refused-line.signature κs) (one other : ℕ) (s t : AtExit (ended_of 1 refused-line-kinds.ps refused-line-kinds.r) κs) where
+  pub refused_line_text_determined : refused-line-reads.Post κs a one s → refused-line-reads.Post κs a other t → s.1.1.1.0.now ≡ t.1.1.1.0.now
+  refused_line_text_determined p q = one-outcome (List ℕ) _ _ _ p.0 q.0
+
+  pub refused_line_determined : refused-line-reads.Post κs a one s → refused-line-reads.Post κs a other t → one ≡ other
+  refused_line_determined p q = one-outcome ℕ _ _ _ p.1.0 q.1.0
 
 module _ (κs : Lfts 1) (a : ArgsD (ended_of 1 number-word-kinds.ps number-word-kinds.r).signature κs) (one other : Bor (List ℕ)) (s t : AtExit (ended_of 1 number-word-kinds.ps number-word-kinds.r) κs) where
   pub number_word_determined : number-word-reads.Post κs a one s → number-word-reads.Post κs a other t → one.now ≡ other.now

@@ -1,6 +1,6 @@
 -- The digits of a line's number, kept from line to line, and what follows them.
 -- Assumes nothing.
-use Rattle.std.specs.Prelude.{Option, Some, None, Result, Ok, Err}
+use Rattle.std.specs.Prelude.{Option, Some, None, Result}
 use Rattle.std.proofs.Common.{if◌then◌else◌}
 use mathlib.Core.Path.{◌≡◌, refl, ap, ◌∙◌, sym}
 use mathlib.Core.Bool.{Bool, true, false}
@@ -11,13 +11,11 @@ use lib.ListN.{length, take, drop, replicate, length-append}
 use lib.Seq.{take_at, length-take-le}
 use lib.Dec.{leb, ltb}
 use borrow.Author.Tests.{lt-ltb, le-leb, leb-true, ltb-true}
-use Rattle.rules.specs.Refusals.{number_in}
 use Rattle.rules.specs.declared.answers.Answer.{Answer}
 use Rattle.rules.specs.declared.refusals.Refusal.{Refusal}
-use Rattle.commands.specs.Bytes.{space, newline, put_in}
+use Rattle.commands.specs.Bytes.{put_in}
 use Rattle.commands.specs.Decimal.{decimal}
-use Rattle.commands.specs.Words.{answer_word}
-use Rattle.commands.specs.Texts.{answer_words, words_room, rest_room, line_room, number_text, rest_of, line_text, line_put, line_end, answer_put, answer_end}
+use Rattle.commands.specs.Texts.{line_put, line_end, answer_put, answer_end}
 use Rattle.commands.specs.Texts.{line_number_of, can_stand, two_digits, digits_stand, line_number, counted_on, digits_of, PutBefore}
 use Rattle.commands.specs.Promises.{DigitsAre, CountsOn}
 use Rattle.commands.specs.declared.text.LineNumber.{LineNumber}
@@ -130,46 +128,10 @@ unfolding digits_of
 whole_put number None at out out₁ e₁ small more p = own_put number at out out₁ e₁ small p
 whole_put number (Some l) at out out₁ e₁ small more p = rw (more l refl) (own_put number at out out₁ e₁ small p)
 
--- what follows the number
-pub rest_put : (answer : Result Answer Refusal) (n at : ℕ) (out out₁ out₂ out₃ out₄ : List ℕ) (e₁ e₂ e₃ e₄ : ℕ) → n ≡ number_in answer → at + rest_room ≤ length out
-    → Put (space ∷ []) at out out₁ e₁ → Put (number_text n) e₁ out₁ out₂ e₂ → e₂ ≤ e₁ + 11
-    → Put (answer_words answer) e₂ out₂ out₃ e₃ → e₃ ≤ e₂ + words_room → Put (newline ∷ []) e₃ out₃ out₄ e₄
-    → Put (rest_of answer) at out out₄ e₄
-unfolding rest_of
-rest_put answer n at out out₁ out₂ out₃ out₄ e₁ e₂ e₃ e₄ is room p q few r short s =
-    let l₁ : length (number_text n) ≤ 11 = (let h = q.ends in omega arith) in
-    let l₂ : length (answer_words answer) ≤ words_room = (let h = r.ends in omega arith) in
-    let two = put_then (space ∷ []) (number_text n) at out out₁ out₂ e₁ e₂ p q (omega arith) in
-    let three = put_then (space ∷ number_text n) (answer_words answer) at out out₂ out₃ e₂ e₃ two r (omega arith) in
-    let l₃ : length (space ∷ number_text n ++ answer_words answer) ≤ 27 = rw length-append (omega arith) in
-    rw (← is) (put_then (space ∷ number_text n ++ answer_words answer) (newline ∷ []) at out out₃ out₄ e₃ e₄ three s (omega arith))
-
-word_some : (answer : Result Answer Refusal) → 1 ≤ length (answer_word answer)
-word_some (Err refusal) = omega arith
-word_some (Ok answer) = some answer
-  where
-    some : (a : Answer) → 1 ≤ length (answer_word (Ok a))
-    some a = grind arith
-
-rest_some : (answer : Result Answer Refusal) → 5 ≤ length (rest_of answer)
-unfolding rest_of answer_words
-rest_some answer =
-    let n = one_some (number_in answer) in
-    let w = word_some answer in
-    simp length-append (omega arith)
-
--- what is known once an answer was to be written
-abbrev LinePut : List ℕ → Result Answer Refusal → ℕ → List ℕ → List ℕ → ℕ → Type 0
-LinePut digits answer at out out' end = (out' ≡ line_put digits answer out at) × ((end ≡ line_end digits answer (length out) at) × (end ≤ at + line_room))
-
-pub line_written : (digits : List ℕ) (answer : Result Answer Refusal) (at : ℕ) (out out₁ out₂ : List ℕ) (e₁ e₂ : ℕ) → at + line_room ≤ length out
-    → NumberPut digits at out out₁ e₁ → Put (rest_of answer) e₁ out₁ out₂ e₂ → e₂ ≤ e₁ + rest_room → LinePut digits answer at out out₂ e₂
-unfolding line_text
-line_written digits answer at out out₁ out₂ e₁ e₂ room p q few =
-    let rest = rest_of answer in
-    let begin = p.1.0 in
-    let low = p.1.1 in
-    let end = q.ends in
-    let bytes : out₂ ≡ put_in (digits ++ rest) at out = q.bytes ∙ ap (λ (j : ℕ). put_in rest j out₁) begin ∙ p.0 rest (rest_some answer) (omega arith) in
-    let ends : e₂ ≡ at + length (digits ++ rest) = rw length-append (omega arith) in
-    rw (le-leb (at + line_room) (length out) room) (bytes, (ends, omega arith))
+-- three texts put in one after the other
+pub put_three : (s t u : List ℕ) (at : ℕ) (out out₁ out₂ out₃ : List ℕ) (e₁ e₂ e₃ : ℕ) → Put s at out out₁ e₁ → Put t e₁ out₁ out₂ e₂ → Put u e₂ out₂ out₃ e₃
+    → at + length s + length t + length u ≤ length out → Put (s ++ t ++ u) at out out₃ e₃
+put_three s t u at out out₁ out₂ out₃ e₁ e₂ e₃ p q r room =
+    let two = put_then s t at out out₁ out₂ e₁ e₂ p q (omega arith) in
+    let l : length (s ++ t) ≡ length s + length t = length-append s t in
+    put_then (s ++ t) u at out out₂ out₃ e₂ e₃ two r (omega arith)

@@ -18,7 +18,7 @@ use Rattle.rules.specs.declared.operations.Operation.TheVariants.{Load, Ll, Stor
 use Rattle.rules.specs.Operations.{code_of, asked_of}
 use Rattle.commands.specs.Bytes.{after_text, space, first_field, more_fields, after_field}
 use Rattle.commands.specs.Decimal.{largest, is_digit, digit_of, all_digits, value_from, number_from, number_said, number_ahead, decimal}
-use Rattle.commands.specs.Words.{Words, after_word, said_or, said, command_words, new_word, give_word, step_word, poke_word, show_word, operation_words, operation_row, operation_word}
+use Rattle.commands.specs.Words.{Words, after_word, said_or, said, command_words, new_word, give_word, step_word, poke_word, show_word, operations, operation_words, operation_row, operation_word}
 use Rattle.commands.specs.Grammar.{after_three, after_two, after_one, numbers_of, operation_with, operation_in, give_after, give_command, command_with, command_after}
 use Rattle.commands.specs.Grammar.{too_long, command_of, numbers_text, operation_text, line_of}
 use Rattle.commands.specs.Promises.{UnderstoodIsWritten, OneLine}
@@ -198,18 +198,12 @@ operation_reads (Store b w) = value_reads (operation_word (Store b w)) _ (λ a v
 operation_reads (Sc b w) = value_reads (operation_word (Sc b w)) _ (λ a v. refl)
 
 -- each row of the list is the row of its operation
-listed_of : OperationForm → Operation
-listed_of (Address o) = o
-listed_of (AddressAndValue o) = o
-
-each_row : (P : List ℕ × OperationForm → Type 0) → ((o : Operation) → P (operation_row o)) → (words : Words OperationForm)
-    → AllByRecursion P (map (λ row. operation_row (listed_of row.1)) words)
+each_row : (P : List ℕ × OperationForm → Type 0) → ((o : Operation) → P (operation_row o)) → (os : List Operation) → AllByRecursion P (map operation_row os)
 each_row P so [] = tt
-each_row P so (row ∷ words) = (so (listed_of row.1), each_row P so words)
+each_row P so (o ∷ os) = (so o, each_row P so os)
 
 operations_read : AllByRecursion (Reads operation_text operation_after) operation_words
-unfolding listed_of
-operations_read = each_row (Reads operation_text operation_after) operation_reads operation_words
+operations_read = each_row (Reads operation_text operation_after) operation_reads operations
 
 operation_written : (s : List ℕ) → Written operation_text s (operation_in s)
 unfolding operation_in operation_after

@@ -11,8 +11,9 @@ use lib.ListN.{length, take, drop, length-append, length-drop, take-append-drop}
 use lib.Seq.{take_at, take-length, length-paste, drop-append-add, drop-drop, length-take-le}
 use lib.Dec.{ltb}
 use borrow.Author.Tests.{ltb-true, le-ltb}
-use Rattle.commands.specs.Bytes.{put_in}
+use Rattle.commands.specs.Bytes.{space, put_in}
 use Rattle.commands.specs.Decimal.{digits_before, decimal}
+use Rattle.commands.specs.Texts.{number_text}
 
 pub is_put : (s : List ℕ) (at : ℕ) (out : List ℕ) → put_in s at out ≡ take at out ++ s ++ drop (at + length s) out
 is_put s at out = ap (λ (t : List ℕ). take at out ++ t ++ drop (at + length s) out) (take-length s)
@@ -102,6 +103,9 @@ put_then s t at out out₁ out₂ e₁ e₂ p q h =
 -- as the code meets them: a text put in after another
 pub value_few : (n : ℕ) → n < 4294967296 → length (decimal n) ≤ 10
 value_few n l = decimal_few n 9 (omega (arith, l))
+
+pub number_few : (n : ℕ) → n < 4294967296 → length (number_text n) ≤ 11
+number_few n l = let p = value_few n l in rw (length-append (decimal n) (space ∷ [])) (omega arith)
 
 pub put_both : (s t : List ℕ) (at e : ℕ) (out out₁ : List ℕ) → out₁ ≡ put_in s at out → e ≡ at + length s → at + length s + length t ≤ length out
     → put_in t e out₁ ≡ put_in (s ++ t) at out

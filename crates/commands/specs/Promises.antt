@@ -13,11 +13,11 @@ use Rattle.rules.specs.declared.cores.Core.{Core}
 use Rattle.machine.specs.declared.sizes.Sizes.{Sizes}
 use Rattle.commands.specs.Bytes.{space, newline, first_field, more_fields, after_field}
 use Rattle.commands.specs.Decimal.{decimal}
-use Rattle.commands.specs.Words.{operation_row, step_word}
+use Rattle.commands.specs.Words.{operation_row, step_word, refused_word}
 use Rattle.commands.specs.Grammar.{numbers_taken, command_of, short_step, line_of}
 use Rattle.commands.specs.Effect.{stands, LineOutcome, line_refused, running, new_of, run_command, run_line}
 use Rattle.commands.specs.Turns.{TurnOutcome, set_up, act_on, run_in_place}
-use Rattle.commands.specs.Texts.{answer_words, line_room, answer_line, line_number, counted_on, digits_of}
+use Rattle.commands.specs.Texts.{answer_words, line_room, refused_text, answer_line, line_number, counted_on, digits_of}
 use Rattle.commands.specs.declared.grammar.Numbers.{Numbers}
 use Rattle.commands.specs.declared.grammar.Numbers.TheVariants.{One, Two, Three}
 use Rattle.commands.specs.declared.grammar.Command.{Command}
@@ -76,15 +76,22 @@ abbrev pub OneLine : Type 0
 OneLine = (line other : List ℕ) → command_of line ≡ command_of other → (command_of line ≡ None → ⊥) → line ≡ other
 
 -- RULES 8.12: "the number of the line .. then the answer number, then words, with one space between", and a newline at the end
-pub record AnswerParts (number : ℕ) (answer : Result Answer Refusal) : Type 0 where
-  pub number_first : first_field (answer_line number answer) ≡ decimal number
-  pub then_answer : more_fields (answer_line number answer) ≡ true
-  pub answer_number : first_field (after_field (answer_line number answer)) ≡ decimal (number_in answer)
-  pub then_words : more_fields (after_field (answer_line number answer)) ≡ true
-  pub words : after_field (after_field (answer_line number answer)) ≡ answer_words answer ++ newline ∷ []
+pub record LineParts (number answered : ℕ) (text line : List ℕ) : Type 0 where
+  pub number_first : first_field line ≡ decimal number
+  pub then_answer : more_fields line ≡ true
+  pub answer_number : first_field (after_field line) ≡ decimal answered
+  pub then_words : more_fields (after_field line) ≡ true
+  pub words : after_field (after_field line) ≡ text ++ newline ∷ []
+
+abbrev pub AnswerParts : ℕ → Result Answer Refusal → Type 0
+AnswerParts number answer = LineParts number (number_in answer) (answer_words answer) (answer_line number answer)
 
 abbrev pub AnswerReads : Type 0
 AnswerReads = (number : ℕ) (answer : Result Answer Refusal) → AnswerParts number answer
+
+-- the same of a refusal of any number, those that the rules don't have too
+abbrev pub RefusedReads : Type 0
+RefusedReads = (number refusal : ℕ) → LineParts number refusal refused_word (refused_text (decimal number) refusal)
 
 abbrev pub AllSmall : List ℕ → Type 0
 AllSmall [] = Unit
@@ -94,6 +101,9 @@ AllSmall (n ∷ s) = Small n × AllSmall s
 abbrev pub AnswerFits : Type 0
 AnswerFits =
     (number : ℕ) (answer : Result Answer Refusal) → number < 18446744073709551616 → AllSmall (values_of answer) → length (answer_line number answer) ≤ line_room
+
+abbrev pub RefusedFits : Type 0
+RefusedFits = (number refusal : ℕ) → number < 18446744073709551616 → Small refusal → length (refused_text (decimal number) refusal) ≤ line_room
 
 -- a line's number is written in its own digits, which are kept from a line to the next
 abbrev pub DigitsAre : Type 0

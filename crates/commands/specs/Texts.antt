@@ -6,7 +6,7 @@ use Rattle.rules.specs.declared.answers.Answer.{Answer}
 use Rattle.rules.specs.declared.refusals.Refusal.{Refusal}
 use Rattle.commands.specs.Bytes.{space, newline, put_in}
 use Rattle.commands.specs.Decimal.{decimal}
-use Rattle.commands.specs.Words.{answer_word}
+use Rattle.commands.specs.Words.{refused_word, answer_word}
 use Rattle.commands.specs.declared.text.LineNumber.{LineNumber}
 
 -- the values of an answer, each after a space
@@ -23,12 +23,22 @@ abbrev pub number_text : ℕ → List ℕ
 number_text n = decimal n ++ space ∷ []
 
 -- what follows a line's number: the answer's number, its words and a newline
+abbrev pub rest_with : ℕ → List ℕ → List ℕ
+rest_with number words = space ∷ number_text number ++ words ++ newline ∷ []
+
 unfoldable pub rest_of : Result Answer Refusal → List ℕ
-rest_of answer = space ∷ number_text (number_in answer) ++ answer_words answer ++ newline ∷ []
+rest_of answer = rest_with (number_in answer) (answer_words answer)
+
+-- the same of a refusal of any number
+unfoldable pub rest_refused : ℕ → List ℕ
+rest_refused refusal = rest_with refusal refused_word
 
 -- a line whose number is written in these digits
 unfoldable pub line_text : List ℕ → Result Answer Refusal → List ℕ
 line_text digits answer = digits ++ rest_of answer
+
+unfoldable pub refused_text : List ℕ → ℕ → List ℕ
+refused_text digits refusal = digits ++ rest_refused refusal
 
 -- room for the longest: words, as `word 4294967295`; what follows a line's number: a space, 10 digits, a space, words, a newline; and a line, whose number has 20 digits
 abbrev pub words_room : ℕ
@@ -40,12 +50,24 @@ rest_room = words_room + 13
 abbrev pub line_room : ℕ
 line_room = rest_room + 20
 
--- that line put in at a place, where there is room for the longest, and where it ends
+-- a line put in at a place, where there is room for the longest, and where it ends
+abbrev pub text_put : List ℕ → List ℕ → ℕ → List ℕ
+text_put text out at = if leb (at + line_room) (length out) then put_in text at out else out
+
+abbrev pub text_end : List ℕ → ℕ → ℕ → ℕ
+text_end text lent at = if leb (at + line_room) lent then at + length text else at
+
 abbrev pub line_put : List ℕ → Result Answer Refusal → List ℕ → ℕ → List ℕ
-line_put digits answer out at = if leb (at + line_room) (length out) then put_in (line_text digits answer) at out else out
+line_put digits answer out at = text_put (line_text digits answer) out at
 
 abbrev pub line_end : List ℕ → Result Answer Refusal → ℕ → ℕ → ℕ
-line_end digits answer lent at = if leb (at + line_room) lent then at + length (line_text digits answer) else at
+line_end digits answer lent at = text_end (line_text digits answer) lent at
+
+abbrev pub refused_put : List ℕ → ℕ → List ℕ → ℕ → List ℕ
+refused_put digits refusal out at = text_put (refused_text digits refusal) out at
+
+abbrev pub refused_end : List ℕ → ℕ → ℕ → ℕ → ℕ
+refused_end digits refusal lent at = text_end (refused_text digits refusal) lent at
 
 -- the same of a number, in its own digits
 abbrev pub answer_line : ℕ → Result Answer Refusal → List ℕ

@@ -1,8 +1,7 @@
 -- The words of the script, once: the grammar reads by these lists, and the answers and the listing of `records` print by them.
-use Rattle.std.specs.Prelude.{ℕ, ◌-◌, Option, Some, None, option_and_then, List, [], ◌∷◌, Result, Ok, Err, codes, get_or}
+use Rattle.std.specs.Prelude.{ℕ, Option, Some, None, option_and_then, List, [], ◌∷◌, map, Result, Ok, Err, codes}
 use Rattle.rules.specs.Entry.{nowhere}
 use Rattle.rules.specs.Kinds.{kind_at}
-use Rattle.rules.specs.Operations.{code_of}
 use Rattle.rules.specs.declared.operations.Operation.{Operation}
 use Rattle.rules.specs.declared.operations.Operation.TheVariants as Asked
 use Rattle.rules.specs.declared.answers.Answer.{Answer}
@@ -63,19 +62,26 @@ show_word = codes "show"
 abbrev pub command_words : Words CommandName
 command_words = (give_word, Give) ∷ (show_word, Show) ∷ (poke_word, Poke) ∷ (step_word, Step) ∷ (new_word, New) ∷ []
 
--- The operations, by the numbers that follow the word; those that stand here are 0. The list is in the order of the operations' own numbers.
-abbrev pub operation_words : Words OperationForm
-operation_words =
-    (codes "load", Address (Asked.Load nowhere))
-    ∷ (codes "ll", Address (Asked.Ll nowhere))
-    ∷ (codes "store", AddressAndValue (Asked.Store nowhere 0))
-    ∷ (codes "sc", AddressAndValue (Asked.Sc nowhere 0))
+-- The row of an operation: its word, and what it stands for, by the numbers that follow the word; those that stand here are 0.
+abbrev pub operation_row : Operation → List ℕ × OperationForm
+operation_row (Asked.Load a) = (codes "load", Address (Asked.Load nowhere))
+operation_row (Asked.Ll a) = (codes "ll", Address (Asked.Ll nowhere))
+operation_row (Asked.Store a v) = (codes "store", AddressAndValue (Asked.Store nowhere 0))
+operation_row (Asked.Sc a v) = (codes "sc", AddressAndValue (Asked.Sc nowhere 0))
+
+-- the operations in the order of the list, and the list
+abbrev pub operations : List Operation
+operations =
+    Asked.Load nowhere
+    ∷ Asked.Ll nowhere
+    ∷ Asked.Store nowhere 0
+    ∷ Asked.Sc nowhere 0
     ∷ []
 
--- the row of an operation, and its word
-abbrev pub operation_row : Operation → List ℕ × OperationForm
-operation_row o = get_or operation_words (code_of o - 1) ([], Address o)
+abbrev pub operation_words : Words OperationForm
+operation_words = map operation_row operations
 
+-- an operation's word
 abbrev pub operation_word : Operation → List ℕ
 operation_word o = (operation_row o).0
 
@@ -86,8 +92,11 @@ delivered_word (Ll v) = operation_word (Asked.Ll nowhere)
 delivered_word Store = operation_word (Asked.Store nowhere 0)
 delivered_word (Sc v) = operation_word (Asked.Sc nowhere 0)
 
+abbrev pub refused_word : List ℕ
+refused_word = codes "refused"
+
 abbrev pub answer_word : Result Answer Refusal → List ℕ
-answer_word (Err refusal) = codes "refused"
+answer_word (Err refusal) = refused_word
 answer_word (Ok Ready) = codes "ready"
 answer_word (Ok Taken) = codes "taken"
 answer_word (Ok Moved) = codes "moved"

@@ -13,6 +13,6 @@ mod words;
 
 pub use effect::{Session, no_machine, set_up};
 pub use grammar::{Command, Numbers, SHORT_STEP, read_line, short_step};
-pub use text::{LineNumber, answer_line, counted_on, line_number};
+pub use text::{LineNumber, answer_line, counted_on, line_number, refused_line};
 pub use turns::{Did, act, one_core_of};
 pub use words::number_word;

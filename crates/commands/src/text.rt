@@ -1,5 +1,5 @@
 // The line that an answer is written as.
-ghost use Rattle.std.specs.Prelude.{◌≡◌, ◌+◌, ◌≤◌, [], ◌∷◌, ◌++◌, length, Ok};
+ghost use Rattle.std.specs.Prelude.{◌≡◌, ◌+◌, ◌≤◌, [], ◌∷◌, ◌++◌, length, leb, Ok};
 ghost use Rattle.rules.specs.declared.answers.Answer.TheVariants.{Done};
 ghost use Rattle.commands.specs.Bytes.{put_in};
 ghost use Rattle.commands.specs.Decimal.{decimal};
@@ -9,10 +9,13 @@ ghost use Rattle.commands.specs.Texts.{
   answer_words,
   words_room,
   rest_of,
+  rest_refused,
   rest_room,
   line_room,
   line_put,
   line_end,
+  refused_put,
+  refused_end,
   two_digits,
   line_number,
   counted_on,
@@ -70,21 +73,20 @@ fn put_delivered(delivered: Delivered, out: &mut [u8], at: usize) -> usize
 
 // No `Display`: it would have these arms too, and a formatter between them and the lent bytes.
 #[tactic(auto, unfolding(crate::specs::Texts::answer_words))]
-fn put_words(answer: Result<Answer, Refusal>, out: &mut [u8], at: usize) -> usize
+fn put_words(answer: Answer, out: &mut [u8], at: usize) -> usize
     requires { at + words_room ≤ length out.old }
-    ensures out_after { out.new ≡ put_in (answer_words answer) at out.old }
-    ensures value { result ≡ at + length (answer_words answer) }
+    ensures out_after { out.new ≡ put_in (answer_words (Ok answer)) at out.old }
+    ensures value { result ≡ at + length (answer_words (Ok answer)) }
     ensures upper_bound { result ≤ at + words_room }
 {
     match answer {
-        Err(_) => put(b"refused", out, at),
-        Ok(Answer::Ready) => put(b"ready", out, at),
-        Ok(Answer::Taken) => put(b"taken", out, at),
-        Ok(Answer::Moved) => put(b"moved", out, at),
-        Ok(Answer::Waits) => put(b"waits", out, at),
-        Ok(Answer::Done(delivered)) => put_delivered(delivered, out, at),
-        Ok(Answer::Poked) => put(b"poked", out, at),
-        Ok(Answer::Word(v)) => put_valued(b"word", v, out, at),
+        Answer::Ready => put(b"ready", out, at),
+        Answer::Taken => put(b"taken", out, at),
+        Answer::Moved => put(b"moved", out, at),
+        Answer::Waits => put(b"waits", out, at),
+        Answer::Done(delivered) => put_delivered(delivered, out, at),
+        Answer::Poked => put(b"poked", out, at),
+        Answer::Word(v) => put_valued(b"word", v, out, at),
     }
 }
 
@@ -107,10 +109,10 @@ fn short_text(digit: u8) -> [u8; 2]
     [b'0' + digit, b' ']
 }
 
-// The number of an answer, and the space after it. Nearly every answer's number has one digit, which
-// costs less than a number of any length.
-#[tactic(auto, using(crate::proofs::Placed::value_few))]
-fn put_answer(number: u32, out: &mut [u8], at: usize) -> usize
+// The number of a refusal, and the space after it. Nearly every one has one digit, which costs less than a number of
+// any length.
+#[tactic(auto, using(crate::proofs::Placed::value_few, crate::proofs::Placed::number_few))]
+fn put_refusal(number: u32, out: &mut [u8], at: usize) -> usize
     requires { at + 11 ≤ length out.old }
     ensures out_after { out.new ≡ put_in (number_text number) at out.old }
     ensures value { result ≡ at + length (number_text number) }
@@ -188,24 +190,65 @@ fn put_line_number(number: u64, line: Option<LineNumber>, out: &mut [u8], at: us
     }
 }
 
-// What follows a line's number.
-fn put_rest(answer: Result<Answer, Refusal>, out: &mut [u8], at: usize) -> usize
+// What follows the line's number of a refusal.
+fn put_refused(refusal: u32, out: &mut [u8], at: usize) -> usize
     requires { at + rest_room ≤ length out.old }
-    ensures out_after { out.new ≡ put_in (rest_of answer) at out.old }
-    ensures value { result ≡ at + length (rest_of answer) }
+    ensures out_after { out.new ≡ put_in (rest_refused refusal) at out.old }
+    ensures value { result ≡ at + length (rest_refused refusal) }
     ensures upper_bound { result ≤ at + rest_room }
 {
     let first = put(b" ", out, at);
-    let second = put_answer(number_of(&answer), out, first);
-    let third = put_words(answer, out, second);
-    put(b"\n", out, third)
+    let second = put_refusal(refusal, out, first);
+    put(b"refused\n", out, second)
+}
+
+// What follows the line's number of an answer that is none: its number is 0.
+fn put_answered(answer: Answer, out: &mut [u8], at: usize) -> usize
+    requires { at + rest_room ≤ length out.old }
+    ensures out_after { out.new ≡ put_in (rest_of (Ok answer)) at out.old }
+    ensures value { result ≡ at + length (rest_of (Ok answer)) }
+    ensures upper_bound { result ≤ at + rest_room }
+{
+    let first = put(b" 0 ", out, at);
+    let second = put_words(answer, out, first);
+    put(b"\n", out, second)
 }
 
 // Room for the longest line.
 const LINE_ROOM: usize = 48;
 
-// Writes an answer's line in at a place of the lent bytes, where there is room for the longest,
-// and answers where it ends.
+fn has_room(lent: usize, at: usize) -> bool
+    ensures { result ≡ leb (at + line_room) lent }
+{
+    match lent.checked_sub(LINE_ROOM) {
+        None => false,
+        Some(last) => at <= last,
+    }
+}
+
+// Writes a refusal's line in at a place of the lent bytes, where there is room for the longest, and answers where it
+// ends. It is public, since a caller may have refusals of its own, with numbers that the rules don't give.
+#[tactic(auto, unfolding(crate::specs::Texts::refused_text, crate::specs::Texts::rest_refused))]
+pub fn refused_line(
+    number: u64,
+    line: Option<LineNumber>,
+    refusal: u32,
+    out: &mut [u8],
+    at: usize,
+) -> usize
+    ensures text { out.new ≡ refused_put (digits_of number line) refusal out.old at }
+    ensures end { result ≡ refused_end (digits_of number line) refusal (length out.old) at }
+    ensures fits { result ≤ at + line_room }
+{
+    if !has_room(out.len(), at) {
+        return at;
+    }
+    let to = put_line_number(number, line, out, at);
+    put_refused(refusal, out, to)
+}
+
+// The same of any answer: a refusal's line is that of its number.
+#[tactic(auto, unfolding(crate::specs::Texts::line_text, crate::specs::Texts::rest_of, crate::specs::Texts::answer_words, crate::specs::Texts::refused_text, crate::specs::Texts::rest_refused))]
 pub fn answer_line(
     number: u64,
     line: Option<LineNumber>,
@@ -217,12 +260,12 @@ pub fn answer_line(
     ensures end { result ≡ line_end (digits_of number line) answer (length out.old) at }
     ensures fits { result ≤ at + line_room }
 {
-    if out.len() < LINE_ROOM {
-        return at;
-    }
-    if out.len() - LINE_ROOM < at {
+    let Ok(done) = answer else {
+        return refused_line(number, line, number_of(&answer), out, at);
+    };
+    if !has_room(out.len(), at) {
         return at;
     }
     let to = put_line_number(number, line, out, at);
-    put_rest(answer, out, to)
+    put_answered(done, out, to)
 }
