@@ -10,6 +10,6 @@ abbrev pub folder_at : List ℕ → Option ℕ → List ℕ
 folder_at path None = codes "."
 folder_at path (Some last) = take (last + 1) path
 
--- RULES 8.23: "its folder": all up to the last slash, and without one the folder that the program was started in
+-- RULES 8.23a: "what stands up to the last slash of FILE, and without a slash the folder that the program was started in"
 abbrev pub FolderOf : List ℕ → List ℕ → Type 0
 FolderOf path folder = (last : Option ℕ) × IsLastByte (is_byte slash) path last × (folder ≡ folder_at path last)
