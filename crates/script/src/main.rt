@@ -61,13 +61,14 @@ fn archive(rt: &HostRuntime, path: &[u8]) -> Outcome {
 }
 
 // Says of FILE why it could not be copied.
-fn not_copied(rt: &HostRuntime, error: FillError) -> Outcome {
-    let failure = Failure {
+fn not_copied(rt: &HostRuntime, error: FillError) -> Outcome
+    ensures { result ≡ Outcome.Failed }
+{
+    Failure {
         what: b"FILE",
         error: refusal(error),
-    };
-    failure.say(rt);
-    Outcome::Failed
+    }
+    .ended(rt)
 }
 
 // Does what the arguments ask for. A length stands beside each buffer: `arg` fills one, and answers how far.

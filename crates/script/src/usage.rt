@@ -1,4 +1,6 @@
 // How the program is started: what is said to whoever asks, or starts it with other arguments.
+ghost use Rattle.std.specs.Prelude.{◌≡◌, MatchResult};
+
 use crate::failure::Failure;
 use crate::outcome::Outcome;
 use std::env::Env;
@@ -53,18 +55,17 @@ fn write_named<W: Write>(rt: &HostRuntime, writer: &mut W) -> io::Result<()> {
     }
 }
 
-// What was asked for is written to standard output.
-fn told(rt: &HostRuntime, written: io::Result<()>) -> Outcome {
+// What was asked for was written to standard output, or that is said.
+fn told(rt: &HostRuntime, written: io::Result<()>) -> Outcome
+    ensures { MatchResult written (λ _. result ≡ Outcome.Done) (λ _. result ≡ Outcome.Failed) }
+{
     match written {
         Ok(()) => Outcome::Done,
-        Err(error) => {
-            Failure {
-                what: b"standard output",
-                error,
-            }
-            .say(rt);
-            Outcome::Failed
+        Err(error) => Failure {
+            what: b"standard output",
+            error,
         }
+        .ended(rt),
     }
 }
 
@@ -79,7 +80,9 @@ pub(crate) fn version(rt: &HostRuntime) -> Outcome {
 }
 
 // Said to whoever starts the program with other arguments. Where that fails, there is nobody to tell.
-pub(crate) fn say(rt: &HostRuntime) -> Outcome {
+pub(crate) fn say(rt: &HostRuntime) -> Outcome
+    ensures { result ≡ Outcome.WrongArguments }
+{
     let _ = write_named(rt, &mut rt.stderr());
     Outcome::WrongArguments
 }
