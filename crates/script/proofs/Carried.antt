@@ -19,7 +19,7 @@ use Rattle.script.specs.declared.answering.Event.{Event}
 use Rattle.script.specs.Lines.{unfinished}
 use Rattle.script.specs.Output.{Work, after_line, after_lines, texts_of, last_number, numbered}
 use Rattle.script.specs.Answering.{answer_room, can_answer, lines_in, event_in, events_of, Stopped, stopped, answer_in, end_in, answer_lines}
-use Rattle.script.specs.Archiving.{listed, writer_in, Follows}
+use Rattle.script.specs.Archiving.{listed, writer_in, whole_in, Follows, StaysWhole}
 use Rattle.script.specs.declared.archive_file.Archives.{Archives}
 use Rattle.script.specs.Sending.{Sends}
 use Rattle.script.specs.Serving.{State, state, Answered, AnsweredSome}
@@ -105,6 +105,16 @@ follows_front false w lines s front before after none f = go after nothing
     go None h = tt
     go (Some x) h = absurd (cc)
 
+-- nor are its archives whole
+whole_front : (watch : Bool) (w : Work) (lines : List (List ℕ)) (s : Stopped) (front : Front watch w lines s) (t t₁ : Bool) (before after : Option Writer) → (watch ≡ false → t ≡ false)
+    → StaysWhole t before (listed s.event) t₁ after → StaysWhole t before (events_of w front.front) t₁ after
+whole_front true w lines s front t t₁ before after none f = let P : List Event → Type 0 = λ e. StaysWhole t before e t₁ after in subst P (sym (front.watched refl)) f
+whole_front false w lines s front t t₁ before after none f = λ e. absurd (true≢false (sym (f e).0 ∙ none refl))
+
+pub none_whole : (archives : Option Archives) → is_some archives ≡ false → whole_in archives ≡ false
+none_whole None e = refl
+none_whole (Some a) e = absurd (true≢false e)
+
 pub no_writer : (archives : Option Archives) → is_some archives ≡ false → option_and_then writer_in archives ≡ None
 no_writer None e = refl
 no_writer (Some a) e = absurd (true≢false e)
@@ -115,8 +125,9 @@ pub answered_some : (watch : Bool) (w w₁ : Work) (lines left : List (List ℕ)
     → take at₁ out₁ ++ texts_of w₁ left ≡ take at out ++ texts_of w lines
     → (written written₁ : Option (List ℕ)) (stood : List ℕ) → Sends written stood written₁ (take at out) []
     → (before after : Option Writer) → (watch ≡ false → before ≡ None) → Follows before (listed event) after
-    → AnsweredSome (state w written stood before) lines (state w₁ written₁ (take at₁ out₁) after) left
-answered_some watch w w₁ lines left out at out₁ at₁ event outcome text written written₁ stood sends before after none follows =
+    → (t t₁ : Bool) → (watch ≡ false → t ≡ false) → StaysWhole t before (listed event) t₁ after
+    → AnsweredSome (state w written stood before t) lines (state w₁ written₁ (take at₁ out₁) after t₁) left
+answered_some watch w w₁ lines left out at out₁ at₁ event outcome text written written₁ stood sends before after none follows t t₁ none_whole stays =
     record {
       front = f.front;
       in_order = f.in_order;
@@ -125,6 +136,7 @@ answered_some watch w w₁ lines left out at out₁ at₁ event outcome text wri
         work = f.work;
         text = (sends.0, sends.1, sent);
         records = follows_front watch w lines (stopped w₁ left out₁ at₁ event) f before after none follows;
+        whole = whole_front watch w lines (stopped w₁ left out₁ at₁ event) f t t₁ before after none_whole stays;
       };
     }
   where

@@ -1,6 +1,6 @@
 -- The input is read piece by piece, and its lines are answered: what is known so far.
 -- Assumes nothing.
-use Rattle.std.specs.Prelude.{Option, Some, None, IfSome, Result, Ok, Err, OnOk}
+use Rattle.std.specs.Prelude.{Option, Some, None, IfSome}
 use Rattle.std.specs.Io.KnownBytes.{Appends, Consumes, IsAtEnd}
 use mathlib.Core.Path.{◌≡◌, refl, ap, ◌∙◌, sym, subst}
 use mathlib.Core.Bool.{true}
@@ -28,11 +28,6 @@ pub record SoFar (x : State) (unread unread₁ : Option (List ℕ)) (held : List
   pub read : Consumes unread unread₁ bytes
   pub lines : Answered x (numbered x.work (handed_on (whole_lines bytes))) y
   pub left : held ≡ handed (unfinished bytes)
-
--- what follows from two facts where it went well
-pub on_both : {A E P Q S : Type 0} → (r : Result A E) → (P → Q → S) → OnOk r P → OnOk r Q → OnOk r S
-on_both (Ok x) f p q = f p q
-on_both (Err e) f p q = tt
 
 -- there is none among no lines
 no_lines : (n : ℕ) → take {A = List ℕ} n [] ≡ []

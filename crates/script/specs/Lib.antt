@@ -6,3 +6,6 @@ pub mod Archiving
 pub mod Sending
 pub mod Serving
 pub mod Failures
+pub mod Outcomes
+pub mod Arguments
+pub mod Paths

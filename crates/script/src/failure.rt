@@ -1,6 +1,8 @@
 // What is said on standard error of a call that failed.
+ghost use Rattle.std.specs.Prelude.{◌≡◌};
 ghost use Rattle.script.specs.Failures.{ReasonOf};
 
+use crate::outcome::Outcome;
 use crate::text::Text;
 use std::fmt::Write as _;
 use std::io;
@@ -43,5 +45,13 @@ impl Failure<'_> {
             say(rt, reason(all).as_bytes());
         }
         say(rt, b"\n");
+    }
+
+    // The same, where the program ends by it.
+    pub(crate) fn ended(&self, rt: &HostRuntime) -> Outcome
+        ensures { result ≡ Outcome.Failed }
+    {
+        self.say(rt);
+        Outcome::Failed
     }
 }

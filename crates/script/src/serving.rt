@@ -4,17 +4,19 @@ ghost use Rattle.std.specs.Io.KnownBytes.{Appends};
 ghost use Rattle.script.specs.Lines.{unfinished, handed, last_line, handed_on, lines_of};
 ghost use Rattle.script.specs.Output.{last_number, numbered, output_of};
 ghost use Rattle.script.specs.Answering.{work_of, lines_in};
-ghost use Rattle.script.specs.Archiving.{writer_in, listed, Follows};
+ghost use Rattle.script.specs.Archiving.{writer_in, whole_in, listed, Follows, StaysWhole};
+ghost use Rattle.script.specs.Outcomes.{outcome_of};
 ghost use Rattle.script.specs.Serving.{state_of, Answered, AnsweredSome};
 
 use crate::answering::{ANSWER_ROOM, Event, answer_lines};
 use crate::archive_file::Archives;
 use crate::failure::Failure;
 use crate::input::Input;
-use crate::output;
+use crate::outcome::Outcome;
 use crate::output::Output;
 use crate::text::Text;
 use crate::work::Work;
+use crate::{archive_file, output};
 use std::io;
 use std::io::{Read, Write};
 
@@ -28,7 +30,8 @@ struct Serving<'a> {
 
 // An event goes to the archives, where there are any.
 fn follow(rt: &HostRuntime, archives: &mut Option<Archives<'_>>, event: Option<Event>)
-    ensures { Follows (option_and_then writer_in archives.old) (listed event) (option_and_then writer_in archives.new) }
+    ensures records { Follows (option_and_then writer_in archives.old) (listed event) (option_and_then writer_in archives.new) }
+    ensures whole { StaysWhole (whole_in archives.old) (option_and_then writer_in archives.old) (listed event) (whole_in archives.new) (option_and_then writer_in archives.new) }
 {
     if let (Some(archives), Some(event)) = (archives, event) {
         archives.follow(rt, event);
@@ -146,33 +149,43 @@ impl Serving<'_> {
             error: io::Error::from(io::ErrorKind::TimedOut),
         })
     }
+    // Ends the archives, where there are any. All is done where they are whole, and so were before.
+    fn end(&mut self, rt: &HostRuntime) -> Outcome
+        ensures outcome { result ≡ outcome_of self.new.archives }
+        ensures whole { whole_in self.new.archives ≡ true → whole_in self.old.archives ≡ true }
+    {
+        if let Some(archives) = &mut self.archives {
+            archives.end(rt);
+        }
+        archive_file::outcome_of(&self.archives)
+    }
 }
 
-// Answers a script, from its first line on. Its runs go into the archives of a path, if there is one.
+// Answers a script, from its first line on. Its runs go into archives, if there are any.
 fn serve_script<R: Read, W: Write>(
     rt: &HostRuntime,
     reader: &mut R,
     writer: &mut W,
-    path: Option<&[u8]>,
-) -> Result<(), Failure<'static>>
+    archives: Option<Archives<'_>>,
+) -> Result<Outcome, Failure<'static>>
     ensures { OnOk result (IfSome (R.remaining reader.old) (λ input. Appends (W.contents writer.old) (W.contents writer.new) (output_of input))) }
 {
     let mut serving = Serving {
         work: Work::fresh(),
-        archives: path.map(|path| Archives::new(path)),
+        archives,
         out: Text::new(),
     };
-    let served = serving.serve_all(rt, reader, writer);
-    if let Err(failure) = &served {
-        failure.say(rt);
+    match serving.serve_all(rt, reader, writer) {
+        Ok(()) => Ok(serving.end(rt)),
+        Err(failure) => {
+            failure.say(rt);
+            let _ = serving.end(rt);
+            Err(failure)
+        }
     }
-    if let Some(archives) = &mut serving.archives {
-        archives.end(rt);
-    }
-    served
 }
 
 // Answers the script on standard input. What failed was said by then.
-pub(crate) fn serve(rt: &HostRuntime, path: Option<&[u8]>) {
-    let _ = serve_script(rt, &mut rt.stdin(), &mut rt.stdout(), path);
+pub(crate) fn serve(rt: &HostRuntime, archives: Option<Archives<'_>>) -> Outcome {
+    serve_script(rt, &mut rt.stdin(), &mut rt.stdout(), archives).unwrap_or(Outcome::Failed)
 }
