@@ -6,3 +6,4 @@ pub mod Archiving
 pub mod Sending
 pub mod Serving
 pub mod Failures
+pub mod Patience

@@ -11,6 +11,7 @@ mod input;
 mod listing;
 mod output;
 mod paths;
+mod patient;
 mod serving;
 mod text;
 mod usage;
@@ -46,7 +47,9 @@ fn with_file(rt: &HostRuntime) {
         .say(rt),
         Ok(length) => match &mode[..n] {
             b"archive" => serving::serve(rt, Some(&path[..length])),
-            b"records" => listing::list(rt, &path[..length]),
+            b"records" => {
+                let _ = listing::list(rt, &path[..length]);
+            }
             _ => usage::say(rt),
         },
     }

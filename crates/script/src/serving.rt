@@ -13,6 +13,7 @@ use crate::failure::Failure;
 use crate::input::Input;
 use crate::output;
 use crate::output::Output;
+use crate::patient::Patient;
 use crate::text::Text;
 use crate::work::Work;
 use std::io;
@@ -174,5 +175,7 @@ fn serve_script<R: Read, W: Write>(
 
 // Answers the script on standard input. What failed was said by then.
 pub(crate) fn serve(rt: &HostRuntime, path: Option<&[u8]>) {
-    let _ = serve_script(rt, &mut rt.stdin(), &mut rt.stdout(), path);
+    let mut reader = Patient::new(rt, rt.stdin());
+    let mut writer = Patient::new(rt, rt.stdout());
+    let _ = serve_script(rt, &mut reader, &mut writer, path);
 }
