@@ -7,3 +7,4 @@ pub mod Sending
 pub mod Serving
 pub mod Failures
 pub mod Patience
+pub mod Listing
