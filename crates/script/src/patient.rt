@@ -1,10 +1,10 @@
 // What reads or writes by one of these asks again: at once where a signal interrupted the call, and after a short sleep
 // where it would block.
-ghost use Rattle.std.specs.Prelude.{◌≡◌, ◌↔◌, IsTrue, IfErr};
+ghost use Rattle.std.specs.Prelude.{◌≡◌, IfErr};
 ghost use Rattle.std.specs.IoError.{error_kind};
 ghost use Rattle.std.specs.Io.{ReadsAtMost, WritesAtMost};
 ghost use Rattle.std.specs.Io.KnownBytes.{Keeps, ReadConsumes, WriteAppends};
-ghost use Rattle.script.specs.Patience.{Passes, Stays};
+ghost use Rattle.script.specs.Patience.{passes, Stays};
 
 use std::io::{ErrorKind, Read, Write};
 use std::time::Duration;
@@ -15,17 +15,16 @@ const NAP: u64 = 1;
 
 // Whether a call that failed so is tried again. Where it would block this sleeps first.
 fn again(rt: &HostRuntime, error: &io::Error) -> bool
-    ensures { IsTrue result ↔ Passes (error_kind error.now) }
+    ensures { result ≡ passes (error_kind error.now) }
 {
-    let kind = error.kind();
-    if kind == ErrorKind::Interrupted {
-        return true;
+    match error.kind() {
+        ErrorKind::Interrupted => true,
+        ErrorKind::WouldBlock => {
+            thread::sleep(rt, Duration::from_millis(NAP));
+            true
+        }
+        _ => false,
     }
-    if kind == ErrorKind::WouldBlock {
-        thread::sleep(rt, Duration::from_millis(NAP));
-        return true;
-    }
-    false
 }
 
 // What is said once the turns are counted out: the library has no call that waits, and every loop has to end.
