@@ -9,3 +9,5 @@ pub mod Failures
 pub mod Outcomes
 pub mod Arguments
 pub mod Paths
+pub mod Patience
+pub mod Listing

@@ -13,6 +13,7 @@ mod listing;
 mod outcome;
 mod output;
 mod paths;
+mod patient;
 mod serving;
 mod text;
 mod usage;

@@ -14,6 +14,7 @@ use crate::failure::Failure;
 use crate::input::Input;
 use crate::outcome::Outcome;
 use crate::output::Output;
+use crate::patient::Patient;
 use crate::text::Text;
 use crate::work::Work;
 use crate::{archive_file, output};
@@ -187,5 +188,7 @@ fn serve_script<R: Read, W: Write>(
 
 // Answers the script on standard input. What failed was said by then.
 pub(crate) fn serve(rt: &HostRuntime, archives: Option<Archives<'_>>) -> Outcome {
-    serve_script(rt, &mut rt.stdin(), &mut rt.stdout(), archives).unwrap_or(Outcome::Failed)
+    let mut reader = Patient::new(rt, rt.stdin());
+    let mut writer = Patient::new(rt, rt.stdout());
+    serve_script(rt, &mut reader, &mut writer, archives).unwrap_or(Outcome::Failed)
 }
