@@ -46,10 +46,13 @@ fn write_usage<W: Write>(writer: &mut W, name: &[u8]) -> io::Result<()> {
     writer.write_all(STATUSES)
 }
 
-// The usage under the name that the program was started by.
+// The usage under the name that the program was started by, or the launcher, which tells its own by a variable.
 fn write_named<W: Write>(rt: &HostRuntime, writer: &mut W) -> io::Result<()> {
     let mut name = [0; NAME_ROOM];
-    match rt.arg(0, &mut name) {
+    match rt
+        .var("MALTHOBRE_NAME", &mut name)
+        .or_else(|_| rt.arg(0, &mut name))
+    {
         Ok(length) => write_usage(writer, &name[..length]),
         Err(_) => write_usage(writer, NAME),
     }
