@@ -46,7 +46,9 @@ fn write_usage<W: Write>(writer: &mut W, name: &[u8]) -> io::Result<()> {
     writer.write_all(STATUSES)
 }
 
-// The usage under the name that the program was started by, or the launcher, which tells its own by a variable.
+// The usage under the name that the program was started by, or the launcher, which tells its own by a variable. It has a
+// frame of its own, so that no other use of the program pays for the name's room in stack.
+#[inline(never)]
 fn write_named<W: Write>(rt: &HostRuntime, writer: &mut W) -> io::Result<()> {
     let mut name = [0; NAME_ROOM];
     match rt
