@@ -1,4 +1,4 @@
--- RULES 8.33 to 8.35: what the program's arguments ask for.
+-- RULES 8.34 to 8.36: what the program's arguments ask for.
 use Rattle.std.specs.Prelude.{ℕ, Bool, true, not, ◌&&◌, ◌||◌, List, [], ◌∷◌, codes, ◌==◌, bytes_eq, if◌then◌else◌}
 use Rattle.script.specs.declared.arguments.Asked.{Asked}
 use Rattle.script.specs.declared.arguments.Asked.TheVariants.{Script, Archive, Records, Help, Version, Other}
@@ -7,12 +7,12 @@ use Rattle.script.specs.declared.arguments.Asked.TheVariants.{Script, Archive, R
 abbrev pub dash : ℕ
 dash = 45
 
--- RULES 8.35: "A FILE begins with no dash"
+-- RULES 8.36: "A FILE begins with no dash"
 abbrev pub is_file : List ℕ → Bool
 is_file [] = true
 is_file (b ∷ bytes) = not (b == dash)
 
--- of how many arguments there are, and the first two of them; RULES 8.34: "first or second"
+-- of how many arguments there are, and the first two of them; RULES 8.35: "first or second"
 abbrev pub asked_of : ℕ → List ℕ → List ℕ → Asked
 asked_of count first second =
     if count == 0 then Script

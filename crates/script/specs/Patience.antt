@@ -1,4 +1,4 @@
--- RULES 8.31c: "A read or a write that a signal interrupted is tried again, and one that would block after a short sleep."
+-- RULES 8.33: "A read or a write that a signal interrupted is tried again, and one that would block after a short sleep."
 use Rattle.std.specs.Prelude.{◌≡◌, Bool, true, false}
 use Rattle.std.specs.declared.io.ErrorKind.{ErrorKind}
 use Rattle.std.specs.declared.io.ErrorKind.TheVariants.{Interrupted, WouldBlock}
