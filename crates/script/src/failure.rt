@@ -3,6 +3,7 @@ ghost use Rattle.std.specs.Prelude.{◌≡◌};
 ghost use Rattle.script.specs.Failures.{ReasonOf};
 
 use crate::outcome::Outcome;
+use crate::patient::Patient;
 use crate::text::Text;
 use std::fmt::Write as _;
 use std::io;
@@ -30,7 +31,7 @@ fn reason(text: &str) -> &str
 
 // Writes to standard error. Where that fails, there is nobody to tell.
 pub(crate) fn say(rt: &HostRuntime, text: &[u8]) {
-    let _ = rt.stderr().write_all(text);
+    let _ = Patient::new(rt, rt.stderr()).write_all(text);
 }
 
 impl Failure<'_> {

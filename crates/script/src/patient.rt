@@ -27,7 +27,7 @@ fn again(rt: &HostRuntime, error: &io::Error) -> bool
     }
 }
 
-// What is said once the turns are counted out: the library has no call that waits, and every loop has to end.
+// What is said once the turns are counted out: every loop has to end.
 fn gave_up() -> io::Error
     ensures { error_kind result ≡ ErrorKind.TimedOut }
 {

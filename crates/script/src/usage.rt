@@ -3,6 +3,7 @@ ghost use Rattle.std.specs.Prelude.{◌≡◌, MatchResult};
 
 use crate::failure::Failure;
 use crate::outcome::Outcome;
+use crate::patient::Patient;
 use std::env::Env;
 use std::io;
 use std::io::Write;
@@ -75,12 +76,12 @@ fn told(rt: &HostRuntime, written: io::Result<()>) -> Outcome
 }
 
 pub(crate) fn help(rt: &HostRuntime) -> Outcome {
-    let written = write_named(rt, &mut rt.stdout());
+    let written = write_named(rt, &mut Patient::new(rt, rt.stdout()));
     told(rt, written)
 }
 
 pub(crate) fn version(rt: &HostRuntime) -> Outcome {
-    let written = rt.stdout().write_all(VERSION);
+    let written = Patient::new(rt, rt.stdout()).write_all(VERSION);
     told(rt, written)
 }
 
@@ -88,6 +89,6 @@ pub(crate) fn version(rt: &HostRuntime) -> Outcome {
 pub(crate) fn say(rt: &HostRuntime) -> Outcome
     ensures { result ≡ Outcome.WrongArguments }
 {
-    let _ = write_named(rt, &mut rt.stderr());
+    let _ = write_named(rt, &mut Patient::new(rt, rt.stderr()));
     Outcome::WrongArguments
 }
