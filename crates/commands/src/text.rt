@@ -202,7 +202,7 @@ fn put_refused(refusal: u32, out: &mut [u8], at: usize) -> usize
     put(b"refused\n", out, second)
 }
 
-// What follows the line's number of an answer that is none: its number is 0.
+// What follows the line's number of an answer that is no refusal: its own number is 0.
 fn put_answered(answer: Answer, out: &mut [u8], at: usize) -> usize
     requires { at + rest_room ≤ length out.old }
     ensures out_after { out.new ≡ put_in (rest_of (Ok answer)) at out.old }
