@@ -1,10 +1,10 @@
 // The look at a whole state: whether it is in its ranges.
-ghost use Rattle.std.specs.Prelude.{◌≡◌, ◌%◌, ◌<◌, ◌≤◌};
-ghost use Rattle.rules.specs.Ranges.{sizes_fit, in_ranges};
-ghost use Rattle.machine.specs.Looked.{operation_place, can_be_at, spare, spare_are0, word_at, words_for, room_of, core_looks_right, fits_at};
+ghost use Rattle.std.specs.Prelude.{◌≡◌, ◌/◌, ◌<◌, ◌≤◌};
+ghost use Rattle.rules.specs.Ranges.{sizes_fit, place_fits, in_ranges};
+ghost use Rattle.machine.specs.Looked.{stage_of, can_be_at, spare, spare_are0, word_at, rooms_of, room_in, core_looks_right, fits_at};
 
 use crate::sizes::{bytes_fit, cores_fit, entries_fit};
-use rules::{Core, Locking, Machine, Shape};
+use rules::{Core, Machine};
 
 fn sizes_fit(m: &Machine) -> bool
     ensures { result ≡ sizes_fit m.now }
@@ -12,47 +12,69 @@ fn sizes_fit(m: &Machine) -> bool
     cores_fit(m.count) && bytes_fit(m.bytes) && entries_fit(m.entries)
 }
 
-// The place of an operation's shape among the stages: an idle core's is 0, and 7 that of a number that is no operation's.
-fn operation_place(operation: u8) -> u64
-    ensures value { result ≡ operation_place operation }
-    ensures upper_bound { result ≤ 7 }
+// What a core's flags and fields are at a stage, a bit for each: it is busy,
+const BUSY: u8 = 1;
+// its value is in use (RULES 4.25),
+const VALUE: u8 = 2;
+// what it read is in use (RULES 4.26),
+const READ: u8 = 4;
+// its step 2 has not passed (RULES 4.27),
+const UNPASSED: u8 = 8;
+// and no core is there.
+const NEVER: u8 = 16;
+
+// A stage is an operation and a next step. Each shape's stages, by next steps from 0 to 7.
+const IDLE: [u8; 8] = [UNPASSED, NEVER, NEVER, NEVER, NEVER, NEVER, NEVER, NEVER];
+
+const LOAD: [u8; 8] = [NEVER, READS, NEVER, NEVER, NEVER, NEVER, NEVER, NEVER];
+
+const LL: [u8; 8] = [
+    NEVER,
+    READS,
+    READS,
+    READS,
+    READS | READ,
+    NEVER,
+    NEVER,
+    NEVER,
+];
+
+const STORE: [u8; 8] = [NEVER, WRITES, WRITES, WRITES, WRITES, NEVER, NEVER, NEVER];
+
+const SC: [u8; 8] = [NEVER, WRITES, WRITES, JUDGED, JUDGED, NEVER, NEVER, NEVER];
+
+const NONE: [u8; 8] = [NEVER; 8];
+
+const READS: u8 = BUSY | UNPASSED;
+
+const WRITES: u8 = BUSY | UNPASSED | VALUE;
+
+const JUDGED: u8 = BUSY | VALUE;
+
+// The stages of each operation, by its number: those of its shape.
+static STAGES: [[u8; 8]; 16] = [
+    IDLE, LOAD, LL, STORE, SC, NONE, NONE, NONE, NONE, NONE, NONE, NONE, NONE, NONE, NONE, NONE,
+];
+
+#[tactic(auto, using(crate::proofs::Looking::stage_found))]
+fn stage_of(operation: u8, next: u8) -> u8
+    requires few_operations { operation < 16 }
+    requires few_steps { next < 8 }
+    ensures { result ≡ stage_of operation next }
 {
-    if operation == 0 {
-        return 0;
-    }
-    match Shape::of(operation) {
-        None => 7,
-        Some(Shape::Load) => 1,
-        Some(Shape::Locks(Locking::Ll)) => 2,
-        Some(Shape::Locks(Locking::Store)) => 3,
-        Some(Shape::Locks(Locking::Sc)) => 4,
-    }
+    STAGES[operation as usize][next as usize]
 }
 
-// The stages that a core can be at, a bit for each: eight times its operation's place, and its next step.
-const IDLE: u64 = 1;
-// load 1; ll, store and sc 1 to 4.
-const BUSY: u64 = 129354301952;
-// sc 3 and 4, where its step 2 passed.
-const PASSED: u64 = 103079215104;
-
-// One test of a core's numbers and flags at once.
+// One test of a core's two flags at once.
 #[tactic(auto, unfolding(crate::specs::Looked::can_be_at))]
-fn can_be_at(c: Core, stage: u64) -> bool
-    requires { stage < 64 }
-    ensures { result ≡ can_be_at c.busy c.passed stage }
+fn can_be_at(stage: u8, busy: bool, passed: bool) -> bool
+    ensures { result ≡ can_be_at stage busy passed }
 {
-    let stages = match (c.busy, c.passed) {
-        (true, true) => PASSED,
-        (true, false) => BUSY,
-        (false, true) => 0,
-        (false, false) => IDLE,
-    };
-    (stages >> stage) % 2 == 1
+    (stage ^ u8::from(busy)) & (NEVER | BUSY | (u8::from(passed) << 3)) == 0
 }
 
-// What must be 0: a field that is not in use. It is a function, and its callers ask both by one `&`, since each field
-// is then chosen and not branched on: with branches a look at a state took 440 instructions for 399, a step 85 ns for 76.
+// What must be 0: a field that is not in use. It is a function, and its callers ask both by one `|`, since each field
+// is then chosen and not branched on.
 fn spare(used: bool, field: u32) -> u32
     ensures { result ≡ spare used field }
 {
@@ -60,10 +82,10 @@ fn spare(used: bool, field: u32) -> u32
 }
 
 #[tactic(auto, unfolding(crate::specs::Looked::spare_are0))]
-fn spare_are_0(c: Core, stage: u64) -> bool
+fn spare_are_0(c: Core, stage: u8) -> bool
     ensures { result ≡ spare_are0 c stage }
 {
-    (spare(25 <= stage, c.value) == 0) & (spare(stage == 20, c.read) == 0)
+    (spare(stage & VALUE != 0, c.value) == 0) & (spare(stage & READ != 0, c.read) == 0)
 }
 
 // The address with its two lowest bits moved to the top: one comparison then tells that it is aligned and inside.
@@ -74,42 +96,56 @@ fn word_at(address: u32) -> u32
     address.rotate_right(2)
 }
 
-// The words that an address in use can be at. A core at or above the count has none, and so cannot be busy or linked.
-fn words_for(count: usize, bytes: usize, at: usize) -> u32
-    requires { bytes ≤ 65536 }
-    ensures { result ≡ words_for count bytes at }
+// The words that an address can be at, where it is not in use (it is 0) and where it is.
+fn rooms_of(words: u32) -> [u32; 2]
+    ensures { result ≡ rooms_of words }
 {
-    if at < count { (bytes / 4) as u32 } else { 0 }
+    [1, words]
 }
 
-// The words that an address can be at: one that is not in use is 0.
-fn room_of(used: bool, words: u32) -> u32
-    ensures { result ≡ room_of used words }
+// An index, and no `if`: so the processor has one instruction for it.
+fn room_in(rooms: &[u32; 2], used: bool) -> u32
+    ensures { result ≡ room_in rooms.now used }
 {
-    if used { words } else { 1 }
+    rooms[usize::from(used)]
 }
 
 #[tactic(auto, unfolding(crate::specs::Looked::core_looks_right, crate::specs::Looked::looks_right_at))]
-fn core_looks_right(words: u32, c: Core) -> bool
-    ensures { result ≡ core_looks_right words c }
+fn core_looks_right(rooms: &[u32; 2], c: Core) -> bool
+    ensures { result ≡ core_looks_right rooms.now c }
 {
-    if 7 < c.next {
+    if 15 < c.operation || 7 < c.next {
         return false;
     }
-    let stage = 8 * operation_place(c.operation) + u64::from(c.next);
-    can_be_at(c, stage)
+    let stage = stage_of(c.operation, c.next);
+    can_be_at(stage, c.busy, c.passed)
         && spare_are_0(c, stage)
-        && word_at(c.address.0) < room_of(c.busy, words)
-        && word_at(c.link.0) < room_of(c.linked, words)
+        && word_at(c.address.0) < room_in(rooms, c.busy)
+        && word_at(c.link.0) < room_in(rooms, c.linked)
+}
+
+fn words_in(bytes: usize) -> u32
+    requires { bytes ≤ 65536 }
+    ensures { result ≡ bytes / 4 }
+{
+    (bytes / 4) as u32
+}
+
+// Only below the count is a core busy or linked.
+fn place_fits(m: &Machine, i: usize, c: Core) -> bool
+    ensures { result ≡ place_fits m.now.count i c }
+{
+    i < m.count || !(c.busy | c.linked)
 }
 
 #[tactic(auto, unfolding(crate::specs::Looked::fits_at))]
-fn fits_at(m: &Machine, i: usize) -> bool
+fn fits_at(m: &Machine, rooms: &[u32; 2], i: usize) -> bool
     requires one_of_eight { i < 8 }
-    requires few_bytes { m.now.bytes ≤ 65536 }
+    requires own_words { rooms.now ≡ rooms_of (m.now.bytes / 4) }
     ensures { result ≡ fits_at m.now i }
 {
-    core_looks_right(words_for(m.count, m.bytes, i), m.cores[i])
+    let c = m.cores[i];
+    place_fits(m, i, c) && core_looks_right(rooms, c)
 }
 
 // Whether the state is in its ranges, looked at where it stands, core by core. It returns at the first test
@@ -122,8 +158,9 @@ pub(crate) fn in_ranges(m: &Machine) -> bool
     if !sizes_fit(m) {
         return false;
     }
+    let rooms = rooms_of(words_in(m.bytes));
     for i in 0..8 {
-        if !fits_at(m, i) {
+        if !fits_at(m, &rooms, i) {
             return false;
         }
     }
