@@ -1,10 +1,10 @@
 -- What the code looks at in each core, in one pass, is what the ranges ask.
 -- Assumes nothing.
-use Rattle.std.proofs.Common.{◌≡◌, ℕ, ◌*◌, ◌/◌, ◌%◌, ◌^◌, ◌<◌, ◌≤◌, List, [], slice_index_or, bit_and, Bool, true, false, not, ◌&&◌, ◌||◌, eqb, ltb, leb, Option, Some, None, is_some, sym, refl, ◌∙◌, arith, ltb-false, ltb-true, le-ltb, lt-ltb, ne_eqb, eqb-true, leb-false, leb-true, if◌then◌else◌}
+use Rattle.std.proofs.Common.{◌≡◌, ℕ, ◌*◌, ◌/◌, ◌%◌, ◌^◌, ◌<◌, ◌≤◌, List, [], slice_index_or, bit_and, bit_or, Bool, true, false, not, ◌&&◌, ◌||◌, eqb, ltb, leb, Option, Some, None, is_some, sym, refl, ◌∙◌, arith, ltb-false, ltb-true, le-ltb, lt-ltb, ne_eqb, eqb-true, leb-false, leb-true, if◌then◌else◌}
 use mathlib.Core.Bool.{false≢true, and-true}
 use borrow.Author.Tests.{eqb-false, lt-leb}
 use Rattle.std.specs.Int.{w32, rotate_right}
-use Rattle.std.proofs.lemmas.Nat.{or_comm, or_shifted}
+use Rattle.std.proofs.lemmas.Nat.{or_comm, or_shifted, or_lt, le_or_l, le_or_r}
 use Rattle.rules.specs.Basics.{all_below}
 use Rattle.rules.specs.Operations.{shape_of, a_load, an_ll, an_sc, with_value}
 use Rattle.rules.specs.Ranges.{sizes_fit, uses_value, uses_read, uses_passed, in_use_or0, link_fields, operation_fits, inside, place_fits, core_fits, core_at, in_ranges}
@@ -59,7 +59,7 @@ every_flag : (Bool → Bool → Bool) → Bool
 every_flag test = test true true && test true false && (test false true && test false false)
 
 shape_right : Bool → Option Shape → Bool
-shape_right none s = every_flag (λ busy passed. all_below 8 (stage_right none s busy passed))
+shape_right none s = every_flag (λ busy passed. all_below 16 (stage_right none s busy passed))
 
 -- the number 0, a number that is no operation's, and each shape's
 idle_right : shape_right true None ≡ true
@@ -92,19 +92,19 @@ record Staged (none : Bool) (s : Option Shape) (stage : ℕ) (busy passed : Bool
   fits : can_be_at stage busy passed ≡ stage_fits none s busy passed next
   uses : can_be_at stage busy passed ≡ true → (in_use stage 2 ≡ value_used s busy) × (in_use stage 4 ≡ read_used s busy next)
 
-staged_by : (none : Bool) (s : Option Shape) → shape_right none s ≡ true → (busy passed : Bool) (next : ℕ) → next ≤ 7 → Staged none s (stage_for none s next) busy passed next
+staged_by : (none : Bool) (s : Option Shape) → shape_right none s ≡ true → (busy passed : Bool) (next : ℕ) → next ≤ 15 → Staged none s (stage_for none s next) busy passed next
 unfolding shape_right stage_right
 staged_by none s h busy passed next n =
     let t = stage_for none s next in
-    let all = at_flags (λ busy passed. all_below 8 (stage_right none s busy passed)) busy passed h in
-    let both = and₂ (agree (can_be_at t busy passed) (stage_fits none s busy passed next)) _ (at_below 8 (stage_right none s busy passed) next (omega arith) all) in
+    let all = at_flags (λ busy passed. all_below 16 (stage_right none s busy passed)) busy passed h in
+    let both = and₂ (agree (can_be_at t busy passed) (stage_fits none s busy passed next)) _ (at_below 16 (stage_right none s busy passed) next (omega arith) all) in
     record {
       fits = agreed (can_be_at t busy passed) (stage_fits none s busy passed next) both.0;
       uses = λ c. let u = and₂ (agree (in_use t 2) (value_used s busy)) (agree (in_use t 4) (read_used s busy next)) (rw c at both.1) in
           (agreed (in_use t 2) (value_used s busy) u.0, agreed (in_use t 4) (read_used s busy next) u.1);
     }
 
-staged : (operation : ℕ) (busy passed : Bool) (next : ℕ) → next ≤ 7 → Staged (eqb operation 0) (shape_of operation) (stage_of operation next) busy passed next
+staged : (operation : ℕ) (busy passed : Bool) (next : ℕ) → next ≤ 15 → Staged (eqb operation 0) (shape_of operation) (stage_of operation next) busy passed next
 unfolding shape_of
 staged operation busy passed next n = go (eqb operation 0) refl
   where
@@ -129,24 +129,35 @@ far_step : (none : Bool) (s : Option Shape) (busy passed : Bool) (next : ℕ) �
 far_step none s true passed next l = rw (ne_eqb next 1 (λ e. omega arith), lt-leb next 4 (omega arith)) (simp and_false)
 far_step none s false passed next l = rw (ne_eqb next 0 (λ e. omega arith)) (simp and_false)
 
+-- both numbers are small where their bits together are
+pub small_operation : (operation next : ℕ) → bit_or operation next ≤ 15 → operation < 16
+small_operation operation next h = let l = le_or_l operation next in omega arith
+
+pub small_next : (operation next : ℕ) → bit_or operation next ≤ 15 → next < 16
+small_next operation next h = let l = le_or_r operation next in omega arith
+
 -- the stage's tests together
-stage_looks : (operation : ℕ) (busy passed : Bool) (next : ℕ) → ((leb operation 15 && leb next 7) && can_be_at (stage_of operation next) busy passed) ≡ stage_fits (eqb operation 0) (shape_of operation) busy passed next
-stage_looks operation busy passed next = go (leb operation 15) refl (leb next 7) refl
+stage_looks : (operation : ℕ) (busy passed : Bool) (next : ℕ) → (leb (bit_or operation next) 15 && can_be_at (stage_of operation next) busy passed) ≡ stage_fits (eqb operation 0) (shape_of operation) busy passed next
+stage_looks operation busy passed next = go (leb (bit_or operation next) 15) refl (leb operation 15) refl (leb next 15) refl
   where
-    go : (t : Bool) → leb operation 15 ≡ t → (u : Bool) → leb next 7 ≡ u → ((t && u) && can_be_at (stage_of operation next) busy passed) ≡ stage_fits (eqb operation 0) (shape_of operation) busy passed next
-    go false p u q = sym (far_operation operation busy passed next (leb-false operation 15 p))
-    go true p false q = sym (far_step (eqb operation 0) (shape_of operation) busy passed next (leb-false next 7 q))
-    go true p true q = (staged operation busy passed next (leb-true next 7 q)).fits
+    go : (s : Bool) → leb (bit_or operation next) 15 ≡ s → (t : Bool) → leb operation 15 ≡ t → (u : Bool) → leb next 15 ≡ u
+        → (s && can_be_at (stage_of operation next) busy passed) ≡ stage_fits (eqb operation 0) (shape_of operation) busy passed next
+    go true o t p u q = (staged operation busy passed next (let l = small_next operation next (leb-true (bit_or operation next) 15 o) in omega arith)).fits
+    go false o false p u q = sym (far_operation operation busy passed next (leb-false operation 15 p))
+    go false o true p false q = sym (far_step (eqb operation 0) (shape_of operation) busy passed next (let l = leb-false next 15 q in omega arith))
+    go false o true p true q =
+        let l = or_lt 4 operation next (let a = leb-true operation 15 p in omega arith) (let b = leb-true next 15 q in omega arith) in
+        let m = leb-false (bit_or operation next) 15 o in absurd (omega arith)
 
 -- the code's table has each operation's stages
-table_right : all_below 16 (λ operation. all_below 8 (λ next. eqb (slice_index_or (slice_index_or {A = List ℕ} STAGES operation []) next 0) (stage_of operation next))) ≡ true
+table_right : all_below 16 (λ operation. all_below 16 (λ next. eqb (slice_index_or (slice_index_or {A = List ℕ} STAGES operation []) next 0) (stage_of operation next))) ≡ true
 unfolding shape_of
 table_right = refl
 
-pub stage_found : (operation next : ℕ) → operation < 16 → next < 8 → slice_index_or (slice_index_or {A = List ℕ} STAGES operation []) next 0 ≡ stage_of operation next
+pub stage_found : (operation next : ℕ) → operation < 16 → next < 16 → slice_index_or (slice_index_or {A = List ℕ} STAGES operation []) next 0 ≡ stage_of operation next
 stage_found operation next o n =
-    let row = at_below 16 (λ operation. all_below 8 (λ next. eqb (slice_index_or (slice_index_or {A = List ℕ} STAGES operation []) next 0) (stage_of operation next))) operation o table_right in
-    eqb-true _ _ (at_below 8 (λ next. eqb (slice_index_or (slice_index_or {A = List ℕ} STAGES operation []) next 0) (stage_of operation next)) next n row)
+    let row = at_below 16 (λ operation. all_below 16 (λ next. eqb (slice_index_or (slice_index_or {A = List ℕ} STAGES operation []) next 0) (stage_of operation next))) operation o table_right in
+    eqb-true _ _ (at_below 16 (λ next. eqb (slice_index_or (slice_index_or {A = List ℕ} STAGES operation []) next 0) (stage_of operation next)) next n row)
 
 -- a field is spare or in use
 spare_or : (used : Bool) (field : ℕ) → eqb (spare used field) 0 ≡ used || eqb field 0
@@ -235,14 +246,14 @@ module _ (count bytes i : ℕ) (c : Core) (h : bytes ≤ 65536) (e : bytes % 4 �
   stage = stage_of c.operation c.next
 
   abbrev numbers : Bool
-  numbers = leb c.operation 15 && leb c.next 7
+  numbers = leb (bit_or c.operation c.next) 15
 
   uses_alike : (numbers && can_be_at stage c.busy c.passed) ≡ true
       → (eqb (spare (in_use stage 2) c.value) 0 ≡ value_used (shape_of c.operation) c.busy || eqb c.value 0) × (eqb (spare (in_use stage 4) c.read) 0 ≡ read_used (shape_of c.operation) c.busy c.next || eqb c.read 0)
   uses_alike h =
       let t = and₂ numbers (can_be_at stage c.busy c.passed) h in
-      let n = and₂ (leb c.operation 15) (leb c.next 7) t.0 in
-      let u = (staged c.operation c.busy c.passed c.next (leb-true c.next 7 n.1)).uses t.1 in
+      let l = small_next c.operation c.next (leb-true (bit_or c.operation c.next) 15 t.0) in
+      let u = (staged c.operation c.busy c.passed c.next (omega arith)).uses t.1 in
       (rw u.0 (spare_or (value_used (shape_of c.operation) c.busy) c.value), rw u.1 (spare_or (read_used (shape_of c.operation) c.busy c.next) c.read))
 
   core_looks : (place_fits count i c && core_looks_right (rooms_of (bytes / 4)) c) ≡ core_fits count bytes i c

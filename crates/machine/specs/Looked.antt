@@ -59,7 +59,7 @@ looks_right_at rooms c stage =
     && nat_lt (word_at c.address.0) (room_in rooms c.busy) && nat_lt (word_at c.link.0) (room_in rooms c.linked)
 
 unfoldable pub core_looks_right : List ℕ → Core → Bool
-core_looks_right rooms c = (nat_le c.operation 15 && nat_le c.next 7) && looks_right_at rooms c (stage_of c.operation c.next)
+core_looks_right rooms c = nat_le (bit_or c.operation c.next) 15 && looks_right_at rooms c (stage_of c.operation c.next)
 
 -- what is tested of the core at a place (RULES 6.22, 6.23)
 unfoldable pub fits_at : Machine → ℕ → Bool

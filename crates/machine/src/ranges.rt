@@ -23,43 +23,43 @@ const UNPASSED: u8 = 8;
 // and no core is there.
 const NEVER: u8 = 16;
 
-// A stage is an operation and a next step. Each shape's stages, by next steps from 0 to 7.
-const IDLE: [u8; 8] = [UNPASSED, NEVER, NEVER, NEVER, NEVER, NEVER, NEVER, NEVER];
+// A stage is an operation and a next step. Each shape's stages, by next steps from 0 to 15.
+const IDLE: [u8; 16] = [UNPASSED, N, N, N, N, N, N, N, N, N, N, N, N, N, N, N];
 
-const LOAD: [u8; 8] = [NEVER, READS, NEVER, NEVER, NEVER, NEVER, NEVER, NEVER];
+const LOAD: [u8; 16] = [N, READS, N, N, N, N, N, N, N, N, N, N, N, N, N, N];
 
-const LL: [u8; 8] = [
-    NEVER,
-    READS,
-    READS,
-    READS,
-    READS | READ,
-    NEVER,
-    NEVER,
-    NEVER,
+const LL: [u8; 16] = [
+    N, READS, READS, READS, HAS_READ, N, N, N, N, N, N, N, N, N, N, N,
 ];
 
-const STORE: [u8; 8] = [NEVER, WRITES, WRITES, WRITES, WRITES, NEVER, NEVER, NEVER];
+const STORE: [u8; 16] = [
+    N, WRITES, WRITES, WRITES, WRITES, N, N, N, N, N, N, N, N, N, N, N,
+];
 
-const SC: [u8; 8] = [NEVER, WRITES, WRITES, JUDGED, JUDGED, NEVER, NEVER, NEVER];
+const SC: [u8; 16] = [
+    N, WRITES, WRITES, JUDGED, JUDGED, N, N, N, N, N, N, N, N, N, N, N,
+];
 
-const NONE: [u8; 8] = [NEVER; 8];
+const NONE: [u8; 16] = [N; 16];
 
 const READS: u8 = BUSY | UNPASSED;
+
+const HAS_READ: u8 = BUSY | UNPASSED | READ;
 
 const WRITES: u8 = BUSY | UNPASSED | VALUE;
 
 const JUDGED: u8 = BUSY | VALUE;
 
+const N: u8 = NEVER;
+
 // The stages of each operation, by its number: those of its shape.
-static STAGES: [[u8; 8]; 16] = [
+static STAGES: [[u8; 16]; 16] = [
     IDLE, LOAD, LL, STORE, SC, NONE, NONE, NONE, NONE, NONE, NONE, NONE, NONE, NONE, NONE, NONE,
 ];
 
-#[tactic(auto, using(crate::proofs::Looking::stage_found))]
 fn stage_of(operation: u8, next: u8) -> u8
     requires few_operations { operation < 16 }
-    requires few_steps { next < 8 }
+    requires few_steps { next < 16 }
     ensures { result ≡ stage_of operation next }
 {
     STAGES[operation as usize][next as usize]
@@ -110,11 +110,11 @@ fn room_in(rooms: &[u32; 2], used: bool) -> u32
     rooms[usize::from(used)]
 }
 
-#[tactic(auto, unfolding(crate::specs::Looked::core_looks_right, crate::specs::Looked::looks_right_at))]
+#[tactic(auto, unfolding(crate::specs::Looked::core_looks_right, crate::specs::Looked::looks_right_at), using(crate::proofs::Looking::small_operation, crate::proofs::Looking::small_next))]
 fn core_looks_right(rooms: &[u32; 2], c: Core) -> bool
     ensures { result ≡ core_looks_right rooms.now c }
 {
-    if 15 < c.operation || 7 < c.next {
+    if 15 < (c.operation | c.next) {
         return false;
     }
     let stage = stage_of(c.operation, c.next);
