@@ -277,6 +277,16 @@ pub no_sizes : (m : Machine) → sizes_fit m ≡ false → in_ranges m ≡ false
 unfolding in_ranges
 no_sizes m h = rw h
 
+-- a core below the count is in its place, and one at or above it where it is neither busy nor linked
+pub in_place : (count i : ℕ) (c : Core) → i < count → place_fits count i c ≡ true
+in_place count i c l = rw (lt-ltb i count l) refl
+
+pub out_of_place : (count i : ℕ) (c : Core) → count ≤ i → place_fits count i c ≡ not (c.busy || c.linked)
+out_of_place count i c l = rw (le-ltb i count l) refl
+
+pub few_cores : (m : Machine) → sizes_fit m ≡ true → m.count ≤ 8
+few_cores m h = (sizes m h).most_cores
+
 pub few_bytes : (m : Machine) → sizes_fit m ≡ true → m.bytes ≤ 65536
 few_bytes m h = (sizes m h).most_bytes
 

@@ -1,6 +1,6 @@
 // The look at a whole state: whether it is in its ranges.
 ghost use Rattle.std.specs.Prelude.{◌≡◌, ◌/◌, ◌<◌, ◌≤◌};
-ghost use Rattle.rules.specs.Ranges.{sizes_fit, place_fits, in_ranges};
+ghost use Rattle.rules.specs.Ranges.{sizes_fit, in_ranges};
 ghost use Rattle.machine.specs.Looked.{stage_of, can_be_at, spare, spare_are0, word_at, rooms_of, room_in, core_looks_right, fits_at};
 
 use crate::sizes::{bytes_fit, cores_fit, entries_fit};
@@ -131,27 +131,33 @@ fn words_in(bytes: usize) -> u32
     (bytes / 4) as u32
 }
 
-// Only below the count is a core busy or linked.
-fn place_fits(m: &Machine, i: usize, c: Core) -> bool
-    ensures { result ≡ place_fits m.now.count i c }
+// A core below the count, and one at or above it, which is neither busy nor linked. They are two, and each has a loop of
+// its own, so that the cores that count are not asked for their place.
+#[tactic(auto, unfolding(crate::specs::Looked::fits_at), using(crate::proofs::Looking::in_place))]
+fn counted_fits(m: &Machine, rooms: &[u32; 2], i: usize) -> bool
+    requires one_of_eight { i < 8 }
+    requires counted { i < m.now.count }
+    requires own_words { rooms.now ≡ rooms_of (m.now.bytes / 4) }
+    ensures { result ≡ fits_at m.now i }
 {
-    i < m.count || !(c.busy | c.linked)
+    core_looks_right(rooms, m.cores[i])
 }
 
-#[tactic(auto, unfolding(crate::specs::Looked::fits_at))]
-fn fits_at(m: &Machine, rooms: &[u32; 2], i: usize) -> bool
+#[tactic(auto, unfolding(crate::specs::Looked::fits_at), using(crate::proofs::Looking::out_of_place))]
+fn spare_fits(m: &Machine, rooms: &[u32; 2], i: usize) -> bool
     requires one_of_eight { i < 8 }
+    requires not_counted { m.now.count ≤ i }
     requires own_words { rooms.now ≡ rooms_of (m.now.bytes / 4) }
     ensures { result ≡ fits_at m.now i }
 {
     let c = m.cores[i];
-    place_fits(m, i, c) && core_looks_right(rooms, c)
+    !(c.busy | c.linked) && core_looks_right(rooms, c)
 }
 
 // Whether the state is in its ranges, looked at where it stands, core by core. It returns at the first test
 // that fails: with one test of all cores the compiler would gather fields of several cores, which costs
 // more than the tests (docs/PERFORMANCE.md).
-#[tactic(auto, using(crate::proofs::Looking::no_sizes, crate::proofs::Looking::few_bytes, crate::proofs::Looking::a_core_out, crate::proofs::Looking::all_looked))]
+#[tactic(auto, using(crate::proofs::Looking::no_sizes, crate::proofs::Looking::few_bytes, crate::proofs::Looking::few_cores, crate::proofs::Looking::a_core_out, crate::proofs::Looking::all_looked))]
 pub(crate) fn in_ranges(m: &Machine) -> bool
     ensures { result ≡ in_ranges m.now }
 {
@@ -159,8 +165,13 @@ pub(crate) fn in_ranges(m: &Machine) -> bool
         return false;
     }
     let rooms = rooms_of(words_in(m.bytes));
-    for i in 0..8 {
-        if !fits_at(m, &rooms, i) {
+    for i in 0..m.count {
+        if !counted_fits(m, &rooms, i) {
+            return false;
+        }
+    }
+    for i in m.count..8 {
+        if !spare_fits(m, &rooms, i) {
             return false;
         }
     }
