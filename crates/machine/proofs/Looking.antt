@@ -8,7 +8,7 @@ use Rattle.std.proofs.lemmas.Nat.{or_comm, or_shifted, or_lt, le_or_l, le_or_r}
 use Rattle.rules.specs.Basics.{all_below}
 use Rattle.rules.specs.Operations.{shape_of, a_load, an_ll, an_sc, with_value}
 use Rattle.rules.specs.Ranges.{sizes_fit, uses_value, uses_read, uses_passed, in_use_or0, link_fields, operation_fits, inside, place_fits, core_fits, core_at, in_ranges}
-use Rattle.machine.specs.Looked.{busy_stage, idle_stage, stage_of, can_be_at, spare, spare_are0, word_at, rooms_of, room_in, looks_right_at, core_looks_right, fits_at}
+use Rattle.machine.specs.Looked.{value_bit, read_bit, busy_stage, idle_stage, stage_of, can_be_at, spare, spare_are0, word_at, rooms_of, room_in, looks_right_at, core_looks_right, fits_at}
 use Rattle.machine.specs.declared.ranges.TheConstants.{STAGES}
 use Rattle.rules.specs.declared.operations.Shape.{Shape}
 use Rattle.rules.specs.declared.operations.Shape.TheVariants.{Load, Locks}
@@ -53,7 +53,7 @@ stage_for none s next = if none then idle_stage next else busy_stage s next
 stage_right : Bool → Option Shape → Bool → Bool → ℕ → Bool
 stage_right none s busy passed next =
     agree (can_be_at (stage_for none s next) busy passed) (stage_fits none s busy passed next)
-    && (if can_be_at (stage_for none s next) busy passed then agree (in_use (stage_for none s next) 2) (value_used s busy) && agree (in_use (stage_for none s next) 4) (read_used s busy next) else true)
+    && (if can_be_at (stage_for none s next) busy passed then agree (in_use (stage_for none s next) value_bit) (value_used s busy) && agree (in_use (stage_for none s next) read_bit) (read_used s busy next) else true)
 
 every_flag : (Bool → Bool → Bool) → Bool
 every_flag test = test true true && test true false && (test false true && test false false)
@@ -90,7 +90,7 @@ at_flags test busy passed h = go busy passed
 -- a stage that is one of a shape's
 record Staged (none : Bool) (s : Option Shape) (stage : ℕ) (busy passed : Bool) (next : ℕ) : Type 0 where
   fits : can_be_at stage busy passed ≡ stage_fits none s busy passed next
-  uses : can_be_at stage busy passed ≡ true → (in_use stage 2 ≡ value_used s busy) × (in_use stage 4 ≡ read_used s busy next)
+  uses : can_be_at stage busy passed ≡ true → (in_use stage value_bit ≡ value_used s busy) × (in_use stage read_bit ≡ read_used s busy next)
 
 staged_by : (none : Bool) (s : Option Shape) → shape_right none s ≡ true → (busy passed : Bool) (next : ℕ) → next ≤ 15 → Staged none s (stage_for none s next) busy passed next
 unfolding shape_right stage_right
@@ -100,8 +100,8 @@ staged_by none s h busy passed next n =
     let both = and₂ (agree (can_be_at t busy passed) (stage_fits none s busy passed next)) _ (at_below 16 (stage_right none s busy passed) next (omega arith) all) in
     record {
       fits = agreed (can_be_at t busy passed) (stage_fits none s busy passed next) both.0;
-      uses = λ c. let u = and₂ (agree (in_use t 2) (value_used s busy)) (agree (in_use t 4) (read_used s busy next)) (rw c at both.1) in
-          (agreed (in_use t 2) (value_used s busy) u.0, agreed (in_use t 4) (read_used s busy next) u.1);
+      uses = λ c. let u = and₂ (agree (in_use t value_bit) (value_used s busy)) (agree (in_use t read_bit) (read_used s busy next)) (rw c at both.1) in
+          (agreed (in_use t value_bit) (value_used s busy) u.0, agreed (in_use t read_bit) (read_used s busy next) u.1);
     }
 
 staged : (operation : ℕ) (busy passed : Bool) (next : ℕ) → next ≤ 15 → Staged (eqb operation 0) (shape_of operation) (stage_of operation next) busy passed next
@@ -249,7 +249,7 @@ module _ (count bytes i : ℕ) (c : Core) (h : bytes ≤ 65536) (e : bytes % 4 �
   numbers = leb (bit_or c.operation c.next) 15
 
   uses_alike : (numbers && can_be_at stage c.busy c.passed) ≡ true
-      → (eqb (spare (in_use stage 2) c.value) 0 ≡ value_used (shape_of c.operation) c.busy || eqb c.value 0) × (eqb (spare (in_use stage 4) c.read) 0 ≡ read_used (shape_of c.operation) c.busy c.next || eqb c.read 0)
+      → (eqb (spare (in_use stage value_bit) c.value) 0 ≡ value_used (shape_of c.operation) c.busy || eqb c.value 0) × (eqb (spare (in_use stage read_bit) c.read) 0 ≡ read_used (shape_of c.operation) c.busy c.next || eqb c.read 0)
   uses_alike h =
       let t = and₂ numbers (can_be_at stage c.busy c.passed) h in
       let l = small_next c.operation c.next (leb-true (bit_or c.operation c.next) 15 t.0) in
@@ -261,7 +261,7 @@ module _ (count bytes i : ℕ) (c : Core) (h : bytes ≤ 65536) (e : bytes % 4 �
   core_looks =
       let words = bytes / 4 in
       in_order
-      numbers (can_be_at stage c.busy c.passed) (eqb (spare (in_use stage 2) c.value) 0) (eqb (spare (in_use stage 4) c.read) 0)
+      numbers (can_be_at stage c.busy c.passed) (eqb (spare (in_use stage value_bit) c.value) 0) (eqb (spare (in_use stage read_bit) c.read) 0)
       (ltb (word_at c.address.0) (room_of c.busy words)) (ltb (word_at c.link.0) (room_of c.linked words))
       (c.busy || eqb c.operation 0) (c.busy || eqb c.next 0) (uses_passed c || not c.passed) (operation_fits c) (in_use_or0 (uses_value c) c.value) (in_use_or0 (uses_read c) c.read)
       (in_use_or0 c.busy c.address.0) (link_fields c) (not c.busy || inside bytes c.address) (not c.linked || inside bytes c.link) (place_fits count i c)

@@ -6,12 +6,24 @@ use Rattle.rules.specs.declared.operations.Shape.{Shape}
 use Rattle.rules.specs.declared.cores.Core.{Core}
 use Rattle.rules.specs.declared.state.Machine.{Machine}
 
--- What a core is at a stage, its operation and next step: one number, with a bit for each flag and field. 1: it is busy; 2: its value is in use; 4: what it read is in use; 8: its step 2 has not passed; 16 alone: no core is there.
+-- What a core is at a stage, its operation and next step: one number, with a bit for each flag and field: it is busy; its value is in use; what it read is in use; its step 2 has not passed; no core is there.
+abbrev pub busy_bit : ℕ
+busy_bit = 1
+
+abbrev pub value_bit : ℕ
+value_bit = 2
+
+abbrev pub read_bit : ℕ
+read_bit = 4
+
+abbrev pub unpassed_bit : ℕ
+unpassed_bit = 8
+
+abbrev pub never_bit : ℕ
+never_bit = 16
+
 abbrev pub bit_of : ℕ → Bool → ℕ
 bit_of bit b = if b then bit else 0
-
-abbrev pub never : ℕ
-never = 16
 
 -- an operation of a shape has the step (RULES 4.4, 4.5)
 abbrev pub has_step : Option Shape → ℕ → Bool
@@ -20,18 +32,19 @@ has_step s next = is_some s && (next == 1 || not (a_load s) && nat_le 2 next && 
 -- a busy core's stage (RULES 4.25 to 4.27)
 abbrev pub busy_stage : Option Shape → ℕ → ℕ
 busy_stage s next =
-    if has_step s next then 1 + bit_of 2 (with_value s) + bit_of 4 (an_ll s && next == 4) + bit_of 8 (not (an_sc s && (next == 3 || next == 4))) else never
+    if has_step s next then busy_bit + bit_of value_bit (with_value s) + bit_of read_bit (an_ll s && next == 4) + bit_of unpassed_bit (not (an_sc s && (next == 3 || next == 4)))
+    else never_bit
 
 -- an idle core's: no operation, and no step
 abbrev pub idle_stage : ℕ → ℕ
-idle_stage next = if next == 0 then 8 else never
+idle_stage next = if next == 0 then unpassed_bit else never_bit
 
 abbrev pub stage_of : ℕ → ℕ → ℕ
 stage_of operation next = if operation == 0 then idle_stage next else busy_stage (shape_of operation) next
 
 -- a core with these flags can be there: busy as the stage is, and passed only where it does not say that step 2 has not
 unfoldable pub can_be_at : ℕ → Bool → Bool → Bool
-can_be_at stage busy passed = bit_and (bit_xor stage (bit_of 1 busy)) (bit_or 17 (bit_of 8 passed)) == 0
+can_be_at stage busy passed = bit_and (bit_xor stage (bit_of busy_bit busy)) (bit_or (never_bit + busy_bit) (bit_of unpassed_bit passed)) == 0
 
 -- a field that is not in use
 abbrev pub spare : Bool → ℕ → ℕ
@@ -39,7 +52,7 @@ spare used field = if used then 0 else field
 
 -- RULES 6.20: "a field that is not in use (4.23) and not 0"
 unfoldable pub spare_are0 : Core → ℕ → Bool
-spare_are0 c stage = spare (not (bit_and stage 2 == 0)) c.value == 0 && spare (not (bit_and stage 4 == 0)) c.read == 0
+spare_are0 c stage = spare (not (bit_and stage value_bit == 0)) c.value == 0 && spare (not (bit_and stage read_bit == 0)) c.read == 0
 
 -- the number of the word at an address, or more than any word's where the address is that of none
 abbrev pub word_at : ℕ → ℕ

@@ -12,7 +12,7 @@ fn sizes_fit(m: &Machine) -> bool
     cores_fit(m.count) && bytes_fit(m.bytes) && entries_fit(m.entries)
 }
 
-// What a core's flags and fields are at a stage, a bit for each: it is busy,
+// A stage is an operation and a next step. What a core's flags and fields are there, a bit for each: it is busy,
 const BUSY: u8 = 1;
 // its value is in use (RULES 4.25),
 const VALUE: u8 = 2;
@@ -21,38 +21,31 @@ const READ: u8 = 4;
 // its step 2 has not passed (RULES 4.27),
 const UNPASSED: u8 = 8;
 // and no core is there.
-const NEVER: u8 = 16;
+const N: u8 = 16;
 
-// A stage is an operation and a next step. Each shape's stages, by next steps from 0 to 15.
+// A busy core that has no value, one that has what it read, one with a value, and one whose step 2 may have passed.
+const B: u8 = BUSY | UNPASSED;
+
+const R: u8 = BUSY | UNPASSED | READ;
+
+const V: u8 = BUSY | UNPASSED | VALUE;
+
+const P: u8 = BUSY | VALUE;
+
+// Each shape's stages, by next steps from 0 to 15.
 const IDLE: [u8; 16] = [UNPASSED, N, N, N, N, N, N, N, N, N, N, N, N, N, N, N];
 
-const LOAD: [u8; 16] = [N, READS, N, N, N, N, N, N, N, N, N, N, N, N, N, N];
+const LOAD: [u8; 16] = [N, B, N, N, N, N, N, N, N, N, N, N, N, N, N, N];
 
-const LL: [u8; 16] = [
-    N, READS, READS, READS, HAS_READ, N, N, N, N, N, N, N, N, N, N, N,
-];
+const LL: [u8; 16] = [N, B, B, B, R, N, N, N, N, N, N, N, N, N, N, N];
 
-const STORE: [u8; 16] = [
-    N, WRITES, WRITES, WRITES, WRITES, N, N, N, N, N, N, N, N, N, N, N,
-];
+const STORE: [u8; 16] = [N, V, V, V, V, N, N, N, N, N, N, N, N, N, N, N];
 
-const SC: [u8; 16] = [
-    N, WRITES, WRITES, JUDGED, JUDGED, N, N, N, N, N, N, N, N, N, N, N,
-];
+const SC: [u8; 16] = [N, V, V, P, P, N, N, N, N, N, N, N, N, N, N, N];
 
 const NONE: [u8; 16] = [N; 16];
 
-const READS: u8 = BUSY | UNPASSED;
-
-const HAS_READ: u8 = BUSY | UNPASSED | READ;
-
-const WRITES: u8 = BUSY | UNPASSED | VALUE;
-
-const JUDGED: u8 = BUSY | VALUE;
-
-const N: u8 = NEVER;
-
-// The stages of each operation, by its number: those of its shape.
+// The stages of each operation, by its number from 0 to 15: those of its shape (`stage_found` in proofs/Looking.antt).
 static STAGES: [[u8; 16]; 16] = [
     IDLE, LOAD, LL, STORE, SC, NONE, NONE, NONE, NONE, NONE, NONE, NONE, NONE, NONE, NONE, NONE,
 ];
@@ -65,12 +58,13 @@ fn stage_of(operation: u8, next: u8) -> u8
     STAGES[operation as usize][next as usize]
 }
 
-// One test of a core's two flags at once.
+// One test of a core's two flags at once: it is busy as the stage is, and passed only where the stage has no `UNPASSED`,
+// which is bit 3.
 #[tactic(auto, unfolding(crate::specs::Looked::can_be_at))]
 fn can_be_at(stage: u8, busy: bool, passed: bool) -> bool
     ensures { result ≡ can_be_at stage busy passed }
 {
-    (stage ^ u8::from(busy)) & (NEVER | BUSY | (u8::from(passed) << 3)) == 0
+    (stage ^ u8::from(busy)) & (N | BUSY | (u8::from(passed) << 3)) == 0
 }
 
 // What must be 0: a field that is not in use. It is a function, and its callers ask both by one `|`, since each field
