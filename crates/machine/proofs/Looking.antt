@@ -1,14 +1,15 @@
 -- What the code looks at in each core, in one pass, is what the ranges ask.
 -- Assumes nothing.
-use Rattle.std.proofs.Common.{◌≡◌, ℕ, ◌*◌, ◌/◌, ◌%◌, ◌^◌, ◌<◌, ◌≤◌, Bool, true, false, not, ◌&&◌, ◌||◌, eqb, ltb, leb, Option, Some, None, is_some, sym, refl, ◌∙◌, arith, ltb-false, ltb-true, le-ltb, lt-ltb, ne_eqb, eqb-true, leb-false, leb-true, if◌then◌else◌}
+use Rattle.std.proofs.Common.{◌≡◌, ℕ, ◌*◌, ◌/◌, ◌%◌, ◌^◌, ◌<◌, ◌≤◌, List, [], slice_index_or, bit_and, bit_or, Bool, true, false, not, ◌&&◌, ◌||◌, eqb, ltb, leb, Option, Some, None, is_some, sym, refl, ◌∙◌, arith, ltb-false, ltb-true, le-ltb, lt-ltb, ne_eqb, eqb-true, leb-false, leb-true, if◌then◌else◌}
 use mathlib.Core.Bool.{false≢true, and-true}
 use borrow.Author.Tests.{eqb-false, lt-leb}
 use Rattle.std.specs.Int.{w32, rotate_right}
-use Rattle.std.proofs.lemmas.Nat.{or_comm, or_shifted}
+use Rattle.std.proofs.lemmas.Nat.{or_comm, or_shifted, or_lt, le_or_l, le_or_r}
 use Rattle.rules.specs.Basics.{all_below}
 use Rattle.rules.specs.Operations.{shape_of, a_load, an_ll, an_sc, with_value}
 use Rattle.rules.specs.Ranges.{sizes_fit, uses_value, uses_read, uses_passed, in_use_or0, link_fields, operation_fits, inside, place_fits, core_fits, core_at, in_ranges}
-use Rattle.machine.specs.Looked.{shape_place, operation_place, stage_of, can_be_at, spare, spare_are0, word_at, words_for, room_of, looks_right_at, core_looks_right, fits_at}
+use Rattle.machine.specs.Looked.{value_bit, read_bit, busy_stage, idle_stage, stage_of, can_be_at, spare, spare_are0, word_at, rooms_of, room_in, looks_right_at, core_looks_right, fits_at}
+use Rattle.machine.specs.declared.ranges.TheConstants.{STAGES}
 use Rattle.rules.specs.declared.operations.Shape.{Shape}
 use Rattle.rules.specs.declared.operations.Shape.TheVariants.{Load, Locks}
 use Rattle.rules.specs.declared.operations.Locking.TheVariants.{Ll, Store, Sc}
@@ -41,24 +42,31 @@ agreed true b h = sym h
 agreed false true h = absurd (false≢true h)
 agreed false false h = refl
 
+-- a stage's bits for a value and for what ll read
+abbrev in_use : ℕ → ℕ → Bool
+in_use stage bit = not (eqb (bit_and stage bit) 0)
+
+abbrev stage_for : Bool → Option Shape → ℕ → ℕ
+stage_for none s next = if none then idle_stage next else busy_stage s next
+
 -- one test of each stage of a shape: it is among the stages where it fits, and what it uses there
-stage_right : Bool → Option Shape → ℕ → Bool → Bool → ℕ → Bool
-stage_right none s place busy passed next =
-    agree (can_be_at busy passed (stage_of place next)) (stage_fits none s busy passed next)
-    && (if can_be_at busy passed (stage_of place next) then agree (leb 25 (stage_of place next)) (value_used s busy) && agree (eqb (stage_of place next) 20) (read_used s busy next) else true)
+stage_right : Bool → Option Shape → Bool → Bool → ℕ → Bool
+stage_right none s busy passed next =
+    agree (can_be_at (stage_for none s next) busy passed) (stage_fits none s busy passed next)
+    && (if can_be_at (stage_for none s next) busy passed then agree (in_use (stage_for none s next) value_bit) (value_used s busy) && agree (in_use (stage_for none s next) read_bit) (read_used s busy next) else true)
 
 every_flag : (Bool → Bool → Bool) → Bool
 every_flag test = test true true && test true false && (test false true && test false false)
 
-shape_right : Bool → Option Shape → ℕ → Bool
-shape_right none s place = every_flag (λ busy passed. all_below 8 (stage_right none s place busy passed))
+shape_right : Bool → Option Shape → Bool
+shape_right none s = every_flag (λ busy passed. all_below 16 (stage_right none s busy passed))
 
 -- the number 0, a number that is no operation's, and each shape's
-idle_right : shape_right true None 0 ≡ true
+idle_right : shape_right true None ≡ true
 unfolding shape_right every_flag stage_right can_be_at agree
 idle_right = refl
 
-shapes_right : (s : Option Shape) → shape_right false s (shape_place s) ≡ true
+shapes_right : (s : Option Shape) → shape_right false s ≡ true
 unfolding shape_right every_flag stage_right can_be_at agree
 shapes_right None = refl
 shapes_right (Some Load) = refl
@@ -80,42 +88,76 @@ at_flags test busy passed h = go busy passed
     go false false = (and₂ (test false true) (test false false) t.1).1
 
 -- a stage that is one of a shape's
-record Staged (none : Bool) (s : Option Shape) (place : ℕ) (busy passed : Bool) (next : ℕ) : Type 0 where
-  fits : can_be_at busy passed (stage_of place next) ≡ stage_fits none s busy passed next
-  uses : can_be_at busy passed (stage_of place next) ≡ true → (leb 25 (stage_of place next) ≡ value_used s busy) × (eqb (stage_of place next) 20 ≡ read_used s busy next)
+record Staged (none : Bool) (s : Option Shape) (stage : ℕ) (busy passed : Bool) (next : ℕ) : Type 0 where
+  fits : can_be_at stage busy passed ≡ stage_fits none s busy passed next
+  uses : can_be_at stage busy passed ≡ true → (in_use stage value_bit ≡ value_used s busy) × (in_use stage read_bit ≡ read_used s busy next)
 
-staged_by : (none : Bool) (s : Option Shape) (place : ℕ) → shape_right none s place ≡ true → (busy passed : Bool) (next : ℕ) → next ≤ 7 → Staged none s place busy passed next
+staged_by : (none : Bool) (s : Option Shape) → shape_right none s ≡ true → (busy passed : Bool) (next : ℕ) → next ≤ 15 → Staged none s (stage_for none s next) busy passed next
 unfolding shape_right stage_right
-staged_by none s place h busy passed next n =
-    let t = stage_of place next in
-    let all = at_flags (λ busy passed. all_below 8 (stage_right none s place busy passed)) busy passed h in
-    let both = and₂ (agree (can_be_at busy passed t) (stage_fits none s busy passed next)) _ (at_below 8 (stage_right none s place busy passed) next (omega arith) all) in
+staged_by none s h busy passed next n =
+    let t = stage_for none s next in
+    let all = at_flags (λ busy passed. all_below 16 (stage_right none s busy passed)) busy passed h in
+    let both = and₂ (agree (can_be_at t busy passed) (stage_fits none s busy passed next)) _ (at_below 16 (stage_right none s busy passed) next (omega arith) all) in
     record {
-      fits = agreed (can_be_at busy passed t) (stage_fits none s busy passed next) both.0;
-      uses = λ c. let u = and₂ (agree (leb 25 t) (value_used s busy)) (agree (eqb t 20) (read_used s busy next)) (rw c at both.1) in
-          (agreed (leb 25 t) (value_used s busy) u.0, agreed (eqb t 20) (read_used s busy next) u.1);
+      fits = agreed (can_be_at t busy passed) (stage_fits none s busy passed next) both.0;
+      uses = λ c. let u = and₂ (agree (in_use t value_bit) (value_used s busy)) (agree (in_use t read_bit) (read_used s busy next)) (rw c at both.1) in
+          (agreed (in_use t value_bit) (value_used s busy) u.0, agreed (in_use t read_bit) (read_used s busy next) u.1);
     }
 
-staged : (operation : ℕ) (busy passed : Bool) (next : ℕ) → next ≤ 7 → Staged (eqb operation 0) (shape_of operation) (operation_place operation) busy passed next
+staged : (operation : ℕ) (busy passed : Bool) (next : ℕ) → next ≤ 15 → Staged (eqb operation 0) (shape_of operation) (stage_of operation next) busy passed next
 unfolding shape_of
-staged operation = go (eqb operation 0) refl
+staged operation busy passed next n = go (eqb operation 0) refl
   where
-    go : (t : Bool) → eqb operation 0 ≡ t → (busy passed : Bool) (next : ℕ) → next ≤ 7 → Staged t (shape_of operation) (if t then 0 else shape_place (shape_of operation)) busy passed next
-    go true e = rw (eqb-true operation 0 e) (staged_by true None 0 idle_right)
-    go false e = staged_by false (shape_of operation) (shape_place (shape_of operation)) (shapes_right (shape_of operation))
+    go : (t : Bool) → eqb operation 0 ≡ t → Staged t (shape_of operation) (stage_for t (shape_of operation) next) busy passed next
+    go true e = rw (eqb-true operation 0 e) (staged_by true None idle_right busy passed next n)
+    go false e = staged_by false (shape_of operation) (shapes_right (shape_of operation)) busy passed next n
+
+-- a number beyond 15 is no operation's, and that fits nowhere
+no_shape : (operation : ℕ) → 15 < operation → shape_of operation ≡ None
+unfolding shape_of
+no_shape operation l = rw (ne_eqb operation 1 (λ e. omega arith), ne_eqb operation 2 (λ e. omega arith), ne_eqb operation 3 (λ e. omega arith), ne_eqb operation 4 (λ e. omega arith)) refl
+
+shapeless : (busy passed : Bool) (next : ℕ) → stage_fits false None busy passed next ≡ false
+shapeless true passed next = simp and_false
+shapeless false passed next = refl
+
+far_operation : (operation : ℕ) (busy passed : Bool) (next : ℕ) → 15 < operation → stage_fits (eqb operation 0) (shape_of operation) busy passed next ≡ false
+far_operation operation busy passed next l = rw (ne_eqb operation 0 (λ e. omega arith), no_shape operation l) (shapeless busy passed next)
 
 -- a next step beyond 7 fits nowhere
 far_step : (none : Bool) (s : Option Shape) (busy passed : Bool) (next : ℕ) → 7 < next → stage_fits none s busy passed next ≡ false
 far_step none s true passed next l = rw (ne_eqb next 1 (λ e. omega arith), lt-leb next 4 (omega arith)) (simp and_false)
 far_step none s false passed next l = rw (ne_eqb next 0 (λ e. omega arith)) (simp and_false)
 
--- the stage's two tests together
-stage_looks : (operation : ℕ) (busy passed : Bool) (next : ℕ) → (leb next 7 && can_be_at busy passed (stage_of (operation_place operation) next)) ≡ stage_fits (eqb operation 0) (shape_of operation) busy passed next
-stage_looks operation busy passed next = go (leb next 7) refl
+-- both numbers are small where their bits together are
+pub small_operation : (operation next : ℕ) → bit_or operation next ≤ 15 → operation < 16
+small_operation operation next h = let l = le_or_l operation next in omega arith
+
+pub small_next : (operation next : ℕ) → bit_or operation next ≤ 15 → next < 16
+small_next operation next h = let l = le_or_r operation next in omega arith
+
+-- the stage's tests together
+stage_looks : (operation : ℕ) (busy passed : Bool) (next : ℕ) → (leb (bit_or operation next) 15 && can_be_at (stage_of operation next) busy passed) ≡ stage_fits (eqb operation 0) (shape_of operation) busy passed next
+stage_looks operation busy passed next = go (leb (bit_or operation next) 15) refl (leb operation 15) refl (leb next 15) refl
   where
-    go : (t : Bool) → leb next 7 ≡ t → (t && can_be_at busy passed (stage_of (operation_place operation) next)) ≡ stage_fits (eqb operation 0) (shape_of operation) busy passed next
-    go false p = sym (far_step (eqb operation 0) (shape_of operation) busy passed next (leb-false next 7 p))
-    go true p = (staged operation busy passed next (leb-true next 7 p)).fits
+    go : (s : Bool) → leb (bit_or operation next) 15 ≡ s → (t : Bool) → leb operation 15 ≡ t → (u : Bool) → leb next 15 ≡ u
+        → (s && can_be_at (stage_of operation next) busy passed) ≡ stage_fits (eqb operation 0) (shape_of operation) busy passed next
+    go true o t p u q = (staged operation busy passed next (let l = small_next operation next (leb-true (bit_or operation next) 15 o) in omega arith)).fits
+    go false o false p u q = sym (far_operation operation busy passed next (leb-false operation 15 p))
+    go false o true p false q = sym (far_step (eqb operation 0) (shape_of operation) busy passed next (let l = leb-false next 15 q in omega arith))
+    go false o true p true q =
+        let l = or_lt 4 operation next (let a = leb-true operation 15 p in omega arith) (let b = leb-true next 15 q in omega arith) in
+        let m = leb-false (bit_or operation next) 15 o in absurd (omega arith)
+
+-- the code's table has each operation's stages
+table_right : all_below 16 (λ operation. all_below 16 (λ next. eqb (slice_index_or (slice_index_or {A = List ℕ} STAGES operation []) next 0) (stage_of operation next))) ≡ true
+unfolding shape_of
+table_right = refl
+
+pub stage_found : (operation next : ℕ) → operation < 16 → next < 16 → slice_index_or (slice_index_or {A = List ℕ} STAGES operation []) next 0 ≡ stage_of operation next
+stage_found operation next o n =
+    let row = at_below 16 (λ operation. all_below 16 (λ next. eqb (slice_index_or (slice_index_or {A = List ℕ} STAGES operation []) next 0) (stage_of operation next))) operation o table_right in
+    eqb-true _ _ (at_below 16 (λ next. eqb (slice_index_or (slice_index_or {A = List ℕ} STAGES operation []) next 0) (stage_of operation next)) next n row)
 
 -- a field is spare or in use
 spare_or : (used : Bool) (field : ℕ) → eqb (spare used field) 0 ≡ used || eqb field 0
@@ -144,57 +186,42 @@ rotated n l =
     let high : n * 1073741824 % 4294967296 ≡ n % 4 * 2 ^ 30 = omega arith in
     or_comm (n / 4) (n * 1073741824 % 4294967296) ∙ rw high (or_shifted (n % 4) 30 (n / 4) (omega arith) ∙ omega arith)
 
-none_below_0 : (n : ℕ) → ltb n 0 ≡ false
-none_below_0 n = le-ltb n 0 (omega arith)
+abbrev room_of : Bool → ℕ → ℕ
+room_of used words = room_in (rooms_of words) used
 
-both_idle : (x y : Bool) → (x && y) ≡ (x && true) && (y && true) && true
-both_idle true true = refl
-both_idle true false = refl
-both_idle false y = refl
-
--- both addresses of the core at a place, in use or 0 and inside, and that they are in use below the count alone
-module _ (count bytes i : ℕ) (h : bytes ≤ 65536) (e : bytes % 4 ≡ 0) (a k : ℕ) where
+-- an address, in use and inside, or 0
+module _ (bytes : ℕ) (h : bytes ≤ 65536) (e : bytes % 4 ≡ 0) where
   abbrev address_fits : Bool → ℕ → Bool
   address_fits used a = (used || eqb a 0) && (not used || eqb (a % 4) 0 && ltb a bytes)
 
-  one_looks : (used : Bool) (a : ℕ) → ltb (word_at a) (room_of used (bytes / 4)) ≡ address_fits used a
-  one_looks true a = word_compares a bytes h e
-  one_looks false a = word_nowhere a ∙ sym (and-true (eqb a 0))
+  address_looks : (used : Bool) (a : ℕ) → ltb (word_at a) (room_of used (bytes / 4)) ≡ address_fits used a
+  address_looks true a = word_compares a bytes h e
+  address_looks false a = word_nowhere a ∙ sym (and-true (eqb a 0))
 
-  addresses_look : (busy linked : Bool) → (ltb (word_at a) (room_of busy (words_for count bytes i)) && ltb (word_at k) (room_of linked (words_for count bytes i))) ≡ (address_fits busy a && address_fits linked k) && (ltb i count || not (busy || linked))
-  addresses_look busy linked = go (ltb i count) busy linked
-    where
-      go : (t busy linked : Bool) → (ltb (word_at a) (room_of busy (if t then bytes / 4 else 0)) && ltb (word_at k) (room_of linked (if t then bytes / 4 else 0))) ≡ (address_fits busy a && address_fits linked k) && (t || not (busy || linked))
-      go true busy linked = rw (one_looks busy a, one_looks linked k) (sym (and-true (address_fits busy a && address_fits linked k)))
-      go false true linked = rw (none_below_0 (word_at a)) (sym (and_false (address_fits true a && address_fits linked k)))
-      go false false true = rw (none_below_0 (word_at k)) (and_false (ltb (word_at a) 1) ∙ sym (and_false (address_fits false a && address_fits true k)))
-      go false false false = rw (word_nowhere a, word_nowhere k) (both_idle (eqb a 0) (eqb k 0))
-
--- The tests of the two sides, each side's in its own order. The look's: the stage's two, value and read, then of address and link where they can be. The
+-- The tests of the two sides, each side's in its own order. The look's: the place; the stage's two, value and read, then of address and link where they can be. The
 -- ranges': operation, next step, passed, what occurs, value and read, address and link in use or 0 and inside; the place.
 module _ (n b v r a< k< : Bool) (o m u f v' r' a k aᵢ kᵢ p : Bool)
     (stage : (n && b) ≡ o && m && u && f)
     (uses : (n && b) ≡ true → (v ≡ v') × (r ≡ r'))
-    (addresses : (a< && k<) ≡ ((a && aᵢ) && (k && kᵢ)) && p) where
+    (address : a< ≡ a && aᵢ) (link : k< ≡ k && kᵢ) where
   abbrev looks : Bool
-  looks = n && (b && (v && r) && a< && k<)
+  looks = p && (n && (b && (v && r) && a< && k<))
 
   abbrev asked : Bool
   asked = ((o && m && a) && (v' && r' && u) && k) && (f && (aᵢ && kᵢ) && p)
 
   looks_asked : looks ≡ true → asked ≡ true
   looks_asked h =
-      let c = and₂ n (b && (v && r) && a< && k<) h in
+      let g = and₂ p (n && (b && (v && r) && a< && k<)) h in
+      let c = and₂ n (b && (v && r) && a< && k<) g.1 in
       let d = and₃ (b && (v && r)) a< k< c.1 in
       let e = and₂ b (v && r) d.0 in
       let z = and₂ v r e.1 in
       let st : n && b ≡ true = rw (c.0, e.0) in
       let w = and₄ o m u f (sym stage ∙ st) in
-      let g = and₂ ((a && aᵢ) && (k && kᵢ)) p (sym addresses ∙ rw (d.1, d.2)) in
-      let q = and₂ (a && aᵢ) (k && kᵢ) g.0 in
-      let ad = and₂ a aᵢ q.0 in
-      let li = and₂ k kᵢ q.1 in
-      rw (w.0, w.1, ad.0, sym (uses st).0 ∙ z.0, sym (uses st).1 ∙ z.1, w.2, li.0, w.3, ad.1, li.1, g.1)
+      let ad = and₂ a aᵢ (sym address ∙ d.1) in
+      let li = and₂ k kᵢ (sym link ∙ d.2) in
+      rw (w.0, w.1, ad.0, sym (uses st).0 ∙ z.0, sym (uses st).1 ∙ z.1, w.2, li.0, w.3, ad.1, li.1, g.0)
 
   asked_looks : asked ≡ true → looks ≡ true
   asked_looks h =
@@ -206,8 +233,9 @@ module _ (n b v r a< k< : Bool) (o m u f v' r' a k aᵢ kᵢ p : Bool)
       let z = and₂ aᵢ kᵢ d.1 in
       let st : n && b ≡ true = stage ∙ rw (e.0, e.1, g.2, d.0) in
       let w = and₂ n b st in
-      let q = and₂ a< k< (addresses ∙ rw (e.2, z.0, c.2, z.1, d.2)) in
-      rw (w.0, w.1, (uses st).0 ∙ g.0, (uses st).1 ∙ g.1, q.0, q.1)
+      let ad : a && aᵢ ≡ true = rw (e.2, z.0) in
+      let li : k && kᵢ ≡ true = rw (c.2, z.1) in
+      rw (w.0, w.1, (uses st).0 ∙ g.0, (uses st).1 ∙ g.1, address ∙ ad, link ∙ li, d.2)
 
   in_order : looks ≡ asked
   in_order = same looks asked looks_asked asked_looks
@@ -215,25 +243,29 @@ module _ (n b v r a< k< : Bool) (o m u f v' r' a k aᵢ kᵢ p : Bool)
 -- one core
 module _ (count bytes i : ℕ) (c : Core) (h : bytes ≤ 65536) (e : bytes % 4 ≡ 0) where
   abbrev stage : ℕ
-  stage = stage_of (operation_place c.operation) c.next
+  stage = stage_of c.operation c.next
 
-  uses_alike : (leb c.next 7 && can_be_at c.busy c.passed stage) ≡ true
-      → (eqb (spare (leb 25 stage) c.value) 0 ≡ value_used (shape_of c.operation) c.busy || eqb c.value 0) × (eqb (spare (eqb stage 20) c.read) 0 ≡ read_used (shape_of c.operation) c.busy c.next || eqb c.read 0)
+  abbrev numbers : Bool
+  numbers = leb (bit_or c.operation c.next) 15
+
+  uses_alike : (numbers && can_be_at stage c.busy c.passed) ≡ true
+      → (eqb (spare (in_use stage value_bit) c.value) 0 ≡ value_used (shape_of c.operation) c.busy || eqb c.value 0) × (eqb (spare (in_use stage read_bit) c.read) 0 ≡ read_used (shape_of c.operation) c.busy c.next || eqb c.read 0)
   uses_alike h =
-      let t = and₂ (leb c.next 7) (can_be_at c.busy c.passed stage) h in
-      let u = (staged c.operation c.busy c.passed c.next (leb-true c.next 7 t.0)).uses t.1 in
+      let t = and₂ numbers (can_be_at stage c.busy c.passed) h in
+      let l = small_next c.operation c.next (leb-true (bit_or c.operation c.next) 15 t.0) in
+      let u = (staged c.operation c.busy c.passed c.next (omega arith)).uses t.1 in
       (rw u.0 (spare_or (value_used (shape_of c.operation) c.busy) c.value), rw u.1 (spare_or (read_used (shape_of c.operation) c.busy c.next) c.read))
 
-  core_looks : core_looks_right (words_for count bytes i) c ≡ core_fits count bytes i c
+  core_looks : (place_fits count i c && core_looks_right (rooms_of (bytes / 4)) c) ≡ core_fits count bytes i c
   unfolding core_looks_right looks_right_at spare_are0 core_fits
   core_looks =
-      let words = words_for count bytes i in
+      let words = bytes / 4 in
       in_order
-      (leb c.next 7) (can_be_at c.busy c.passed stage) (eqb (spare (leb 25 stage) c.value) 0) (eqb (spare (eqb stage 20) c.read) 0)
+      numbers (can_be_at stage c.busy c.passed) (eqb (spare (in_use stage value_bit) c.value) 0) (eqb (spare (in_use stage read_bit) c.read) 0)
       (ltb (word_at c.address.0) (room_of c.busy words)) (ltb (word_at c.link.0) (room_of c.linked words))
       (c.busy || eqb c.operation 0) (c.busy || eqb c.next 0) (uses_passed c || not c.passed) (operation_fits c) (in_use_or0 (uses_value c) c.value) (in_use_or0 (uses_read c) c.read)
       (in_use_or0 c.busy c.address.0) (link_fields c) (not c.busy || inside bytes c.address) (not c.linked || inside bytes c.link) (place_fits count i c)
-      (stage_looks c.operation c.busy c.passed c.next) uses_alike (addresses_look count bytes i h e c.address.0 c.link.0 c.busy c.linked)
+      (stage_looks c.operation c.busy c.passed c.next) uses_alike (address_looks bytes h e c.busy c.address.0) (address_looks bytes h e c.linked c.link.0)
 
 -- where the sizes fit, the look at a core asks what the ranges ask of it
 alike : (m : Machine) → sizes_fit m ≡ true → (i : ℕ) → fits_at m i ≡ core_fits m.count m.bytes i (core_at m i)
@@ -244,6 +276,16 @@ alike m h i = let s = sizes m h in core_looks m.count m.bytes i (core_at m i) s.
 pub no_sizes : (m : Machine) → sizes_fit m ≡ false → in_ranges m ≡ false
 unfolding in_ranges
 no_sizes m h = rw h
+
+-- a core below the count is in its place, and one at or above it where it is neither busy nor linked
+pub in_place : (count i : ℕ) (c : Core) → i < count → place_fits count i c ≡ true
+in_place count i c l = rw (lt-ltb i count l) refl
+
+pub out_of_place : (count i : ℕ) (c : Core) → count ≤ i → place_fits count i c ≡ not (c.busy || c.linked)
+out_of_place count i c l = rw (le-ltb i count l) refl
+
+pub few_cores : (m : Machine) → sizes_fit m ≡ true → m.count ≤ 8
+few_cores m h = (sizes m h).most_cores
 
 pub few_bytes : (m : Machine) → sizes_fit m ≡ true → m.bytes ≤ 65536
 few_bytes m h = (sizes m h).most_bytes

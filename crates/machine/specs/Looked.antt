@@ -1,77 +1,79 @@
 -- No rule: what the code looks at in a core, with a test of several fields at once. Where the sizes fit it asks of the eight cores what the page Ranges.antt of `rules` asks (`no_sizes`, `a_core_out` and `all_looked` in proofs/Looking.antt), and no public contract cites it.
-use Rattle.std.specs.Prelude.{ℕ, ◌+◌, ◌*◌, ◌/◌, ◌%◌, ◌^◌, Bool, ◌&&◌, Option, Some, None, ◌==◌, nat_le, nat_lt, if◌then◌else◌}
-use Rattle.rules.specs.Operations.{shape_of}
-use Rattle.rules.specs.Ranges.{core_at}
+use Rattle.std.specs.Prelude.{ℕ, ◌+◌, ◌*◌, ◌/◌, ◌%◌, Bool, not, ◌&&◌, ◌||◌, Option, is_some, ◌==◌, nat_le, nat_lt, if◌then◌else◌, List, [], ◌∷◌, slice_index, bit_and, bit_or, bit_xor}
+use Rattle.rules.specs.Operations.{shape_of, a_load, an_ll, an_sc, with_value}
+use Rattle.rules.specs.Ranges.{core_at, place_fits}
 use Rattle.rules.specs.declared.operations.Shape.{Shape}
-use Rattle.rules.specs.declared.operations.Shape.TheVariants.{Load, Locks}
-use Rattle.rules.specs.declared.operations.Locking.TheVariants.{Ll, Store, Sc}
 use Rattle.rules.specs.declared.cores.Core.{Core}
 use Rattle.rules.specs.declared.state.Machine.{Machine}
 
--- the place of a shape among the stages, 7 where there is none
-abbrev pub shape_place : Option Shape → ℕ
-shape_place None = 7
-shape_place (Some Load) = 1
-shape_place (Some (Locks Ll)) = 2
-shape_place (Some (Locks Store)) = 3
-shape_place (Some (Locks Sc)) = 4
+-- What a core is at a stage, its operation and next step: one number, with a bit for each flag and field: it is busy; its value is in use; what it read is in use; its step 2 has not passed; no core is there.
+abbrev pub busy_bit : ℕ
+busy_bit = 1
 
--- the place of an operation's number: an idle core's is 0
-abbrev pub operation_place : ℕ → ℕ
-operation_place operation = if operation == 0 then 0 else shape_place (shape_of operation)
+abbrev pub value_bit : ℕ
+value_bit = 2
 
--- a core's stage: eight times that place, and its next step
+abbrev pub read_bit : ℕ
+read_bit = 4
+
+abbrev pub unpassed_bit : ℕ
+unpassed_bit = 8
+
+abbrev pub never_bit : ℕ
+never_bit = 16
+
+abbrev pub bit_of : ℕ → Bool → ℕ
+bit_of bit b = if b then bit else 0
+
+-- an operation of a shape has the step (RULES 4.4, 4.5)
+abbrev pub has_step : Option Shape → ℕ → Bool
+has_step s next = is_some s && (next == 1 || not (a_load s) && nat_le 2 next && nat_le next 4)
+
+-- a busy core's stage (RULES 4.25 to 4.27)
+abbrev pub busy_stage : Option Shape → ℕ → ℕ
+busy_stage s next =
+    if has_step s next then busy_bit + bit_of value_bit (with_value s) + bit_of read_bit (an_ll s && next == 4) + bit_of unpassed_bit (not (an_sc s && (next == 3 || next == 4)))
+    else never_bit
+
+-- an idle core's: no operation, and no step
+abbrev pub idle_stage : ℕ → ℕ
+idle_stage next = if next == 0 then unpassed_bit else never_bit
+
 abbrev pub stage_of : ℕ → ℕ → ℕ
-stage_of place next = 8 * place + next
+stage_of operation next = if operation == 0 then idle_stage next else busy_stage (shape_of operation) next
 
--- the stages that a core can be at, a bit for each: an idle core's
-abbrev pub idle_stages : ℕ
-idle_stages = 1
-
--- a busy core's: load 1; ll, store and sc 1 to 4 (RULES 4.4, 4.5)
-abbrev pub busy_stages : ℕ
-busy_stages = 129354301952
-
--- sc 3 and 4, where its step 2 passed (RULES 4.27)
-abbrev pub passed_stages : ℕ
-passed_stages = 103079215104
-
-abbrev pub stages_of : Bool → Bool → ℕ
-stages_of busy passed = if busy then (if passed then passed_stages else busy_stages) else if passed then 0 else idle_stages
-
--- the stage's bit is set
-unfoldable pub can_be_at : Bool → Bool → ℕ → Bool
-can_be_at busy passed stage = stages_of busy passed / 2 ^ stage % 2 == 1
+-- a core with these flags can be there: busy as the stage is, and passed only where it does not say that step 2 has not
+unfoldable pub can_be_at : ℕ → Bool → Bool → Bool
+can_be_at stage busy passed = bit_and (bit_xor stage (bit_of busy_bit busy)) (bit_or (never_bit + busy_bit) (bit_of unpassed_bit passed)) == 0
 
 -- a field that is not in use
 abbrev pub spare : Bool → ℕ → ℕ
 spare used field = if used then 0 else field
 
--- RULES 6.20: "a field that is not in use (4.23) and not 0": a value is in use from store 1 on (RULES 4.25), and what ll read at ll 4 (RULES 4.26)
+-- RULES 6.20: "a field that is not in use (4.23) and not 0"
 unfoldable pub spare_are0 : Core → ℕ → Bool
-spare_are0 c stage = spare (nat_le 25 stage) c.value == 0 && spare (stage == 20) c.read == 0
+spare_are0 c stage = spare (not (bit_and stage value_bit == 0)) c.value == 0 && spare (not (bit_and stage read_bit == 0)) c.read == 0
 
 -- the number of the word at an address, or more than any word's where the address is that of none
 abbrev pub word_at : ℕ → ℕ
 word_at a = a / 4 + a % 4 * 1073741824
 
--- the words that an address in use can be at: in a machine's memory (RULES 6.22), and at or above the count none (RULES 6.23)
-abbrev pub words_for : ℕ → ℕ → ℕ → ℕ
-words_for count bytes i = if nat_lt i count then bytes / 4 else 0
+-- the words that an address can be at, where it is not in use (it is 0), and where it is
+abbrev pub rooms_of : ℕ → List ℕ
+rooms_of words = 1 ∷ words ∷ []
 
--- the words that an address can be at: one that is not in use is 0
-abbrev pub room_of : Bool → ℕ → ℕ
-room_of used words = if used then words else 1
+abbrev pub room_in : List ℕ → Bool → ℕ
+room_in rooms used = slice_index rooms (bit_of 1 used)
 
 -- a stage that the core can be at, and its fields there
-unfoldable pub looks_right_at : ℕ → Core → ℕ → Bool
-looks_right_at words c stage =
-    can_be_at c.busy c.passed stage && spare_are0 c stage
-    && nat_lt (word_at c.address.0) (room_of c.busy words) && nat_lt (word_at c.link.0) (room_of c.linked words)
+unfoldable pub looks_right_at : List ℕ → Core → ℕ → Bool
+looks_right_at rooms c stage =
+    can_be_at stage c.busy c.passed && spare_are0 c stage
+    && nat_lt (word_at c.address.0) (room_in rooms c.busy) && nat_lt (word_at c.link.0) (room_in rooms c.linked)
 
-unfoldable pub core_looks_right : ℕ → Core → Bool
-core_looks_right words c = nat_le c.next 7 && looks_right_at words c (stage_of (operation_place c.operation) c.next)
+unfoldable pub core_looks_right : List ℕ → Core → Bool
+core_looks_right rooms c = nat_le (bit_or c.operation c.next) 15 && looks_right_at rooms c (stage_of c.operation c.next)
 
--- what is tested of the core at a place
+-- what is tested of the core at a place (RULES 6.22, 6.23)
 unfoldable pub fits_at : Machine → ℕ → Bool
-fits_at m i = core_looks_right (words_for m.count m.bytes i) (core_at m i)
+fits_at m i = place_fits m.count i (core_at m i) && core_looks_right (rooms_of (m.bytes / 4)) (core_at m i)

@@ -103,10 +103,10 @@ pub fn step_core(
     Ok(did)
 }
 
-// Of a machine by value: one core is taken out of its place, and what became of it is put there.
+// Of a machine by value: one core is taken out of its place, and what became of it is put there, in the parameter itself.
 #[tactic(auto, unfolding(rules::specs::Calls::step_of, rules::specs::Calls::step_refusal))]
 pub fn step(
-    m: Machine,
+    mut m: Machine,
     memory: &mut [u8],
     owners: &mut [u8],
     holders: &mut [u8],
@@ -120,17 +120,17 @@ pub fn step(
     }
     let at = core % 8;
     let sizes = Sizes::of(&m);
-    match step_core(sizes, m.cores[at], memory, owners, holders, core) {
+    let (answer, made) = match step_core(sizes, m.cores[at], memory, owners, holders, core) {
         Ok(did) => {
-            let mut machine = m;
-            machine.cores[at] = did.core;
-            Called {
-                answer: Ok(did.answer),
-                made: did.made,
-                machine,
-            }
+            m.cores[at] = did.core;
+            (Ok(did.answer), did.made)
         }
-        Err(refusal) => Called::refused(refusal, m),
+        Err(refusal) => (Err(refusal), None),
+    };
+    Called {
+        answer,
+        made,
+        machine: m,
     }
 }
 

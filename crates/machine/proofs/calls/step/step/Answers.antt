@@ -10,4 +10,4 @@ returns-in-Ok c =
 pub returns-in-Err : goal.returns-in-Err
 returns-in-Err c =
     let p = step_put c.args.m (sym c.in_ranges.ensures ∙ c.if-not-in_ranges.false) _ _ _ _ _ _ _ _ (rw c.of-sizes.ensures at c.in-Err.ensures) in
-    record { number = rw c.refused-in-Err.ensures p.0; outcome = rw c.refused-in-Err.ensures p.1 }
+    record { number = p.0; outcome = p.1 }
