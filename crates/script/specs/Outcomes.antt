@@ -1,5 +1,6 @@
 -- How the program ends, and the status that says so.
 use Rattle.std.specs.Prelude.{ℕ, Option, Some, None, if◌then◌else◌}
+use Rattle.rules.specs.declared.refusals.Refusal.{Refusal}
 use Rattle.script.specs.declared.archive_file.Archives.{Archives}
 use Rattle.script.specs.declared.outcome.Outcome.{Outcome}
 use Rattle.script.specs.declared.outcome.Outcome.TheVariants.{Done, ArchiveRefused, WrongArguments, Failed}
@@ -15,3 +16,8 @@ status_of Failed = 3
 abbrev pub outcome_of : Option Archives → Outcome
 outcome_of None = Done
 outcome_of (Some archives) = if archives.whole then Done else Failed
+
+-- RULES 8.32: 1 where "an archive is refused": of a listing, by the refusal that it came to, if it came to one
+abbrev pub outcome_by : Option Refusal → Outcome
+outcome_by None = Done
+outcome_by (Some refusal) = ArchiveRefused

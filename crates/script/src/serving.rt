@@ -162,22 +162,27 @@ impl Serving<'_> {
     }
 }
 
-// Answers a script, from its first line on. Its runs go into archives, if there are any.
+// Answers a script, from its first line on. Its runs go into archives, if there are any, which are ended then.
 fn serve_script<R: Read, W: Write>(
     rt: &HostRuntime,
     reader: &mut R,
     writer: &mut W,
-    archives: Option<Archives<'_>>,
+    archives: &mut Option<Archives<'_>>,
 ) -> Result<Outcome, Failure<'static>>
-    ensures { OnOk result (IfSome (R.remaining reader.old) (λ input. Appends (W.contents writer.old) (W.contents writer.new) (output_of input))) }
+    ensures outcome { IfOk result (λ outcome. outcome ≡ outcome_of archives.new) }
+    ensures output { OnOk result (IfSome (R.remaining reader.old) (λ input. Appends (W.contents writer.old) (W.contents writer.new) (output_of input))) }
 {
     let mut serving = Serving {
         work: Work::fresh(),
-        archives,
+        archives: archives.take(),
         out: Text::new(),
     };
     match serving.serve_all(rt, reader, writer) {
-        Ok(()) => Ok(serving.end(rt)),
+        Ok(()) => {
+            let outcome = serving.end(rt);
+            *archives = serving.archives.take();
+            Ok(outcome)
+        }
         Err(failure) => {
             failure.say(rt);
             let _ = serving.end(rt);
@@ -187,8 +192,8 @@ fn serve_script<R: Read, W: Write>(
 }
 
 // Answers the script on standard input. What failed was said by then.
-pub(crate) fn serve(rt: &HostRuntime, archives: Option<Archives<'_>>) -> Outcome {
+pub(crate) fn serve(rt: &HostRuntime, mut archives: Option<Archives<'_>>) -> Outcome {
     let mut reader = Patient::new(rt, rt.stdin());
     let mut writer = Patient::new(rt, rt.stdout());
-    serve_script(rt, &mut reader, &mut writer, archives).unwrap_or(Outcome::Failed)
+    serve_script(rt, &mut reader, &mut writer, &mut archives).unwrap_or(Outcome::Failed)
 }
